@@ -1,0 +1,21 @@
+-- The records in the lent buffer. `put` stores a word at a place of the buffer: `set` for dwords, `putLe` for bytes.
+use Prim.Native.Nat.{ℕ, zero, suc, _+_, _*_}
+use mathlib.Core.List.{List, [], _∷_}
+use lib.ListN.{getD}
+use Rattle.command.specs.Order.{Command}
+use Rattle.command.specs.Record.{recordOf}
+
+-- where word f of record i stands: "A record is 16 words"
+abbrev pub slot : ℕ → ℕ → ℕ
+slot i f = 16 * i + f
+
+module _ {B : Type 0} (put : B → ℕ → ℕ → B) where
+  -- the first n words of record i set to those of a list
+  unfoldable pub stamp : B → ℕ → List ℕ → ℕ → B
+  stamp r i ws zero = r
+  stamp r i ws (suc f) = put (stamp r i ws f) (slot i f) (getD ws f 0)
+
+  -- the records of commands, from record i on
+  unfoldable pub written : List Command → ℕ → B → B
+  written [] i r = r
+  written (c ∷ cs) i r = written cs (i + 1) (stamp r i (recordOf c) 16)

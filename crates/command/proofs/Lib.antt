@@ -1,0 +1,5 @@
+pub mod Tests
+pub mod Verdicts
+pub mod Heads
+pub mod Judged
+pub mod Order

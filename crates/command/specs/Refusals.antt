@@ -1,0 +1,71 @@
+-- Why a command is turned away: rows 3 to 9 of document 01's table, in its order. A place counts from the command's first dword.
+use Prim.Native.Nat.{ℕ, _+_, _*_, _%_}
+use mathlib.Core.Bool.{Bool, not, _&&_, _||_}
+use mathlib.Core.List.{List, [], _∷_, _++_}
+use lib.Dec.{ltb, leb, eqb}
+use Rattle.laws.specs.Rows.{Row, row, firstRow}
+use Rattle.laws.specs.BitRanges.{anySet}
+use Rattle.command.specs.declared.State.{State}
+use Rattle.command.specs.declared.Verdict.{Verdict}
+use Rattle.command.specs.declared.Verdict.the-variants.{Fault, Passed}
+use Rattle.command.specs.Kinds.{noKind, lengthField, lengthAllowed, totalOf}
+use Rattle.command.specs.MustBeZero.{markedBits}
+use Rattle.command.specs.Fields.{dword, urbEntries, entrySize, curbeSize, loadLength, loadAddress, descriptorIndex}
+
+-- a load: kinds 4 and 5
+abbrev pub isLoad : ℕ → Bool
+isLoad k = eqb k 4 || eqb k 5
+
+-- Rows 3 to 5 read the first dword d, of a command of kind k, and how many dwords the slice still has.
+abbrev pub headerRows : ℕ → ℕ → ℕ → List Row
+headerRows k d left =
+    -- 3: "header's type and opcodes not in the table"
+    row 3 0 (eqb k noKind)
+    -- 4: "length field not allowed"
+    ∷ row 4 0 (not (lengthAllowed k (lengthField d)))
+    -- 5: "command runs past the slice"
+    ∷ row 5 0 (ltb left (totalOf k d))
+    ∷ []
+
+-- 6: "a must-be-zero bit is set (place: first such dword)"; here dword i of the own dwords h
+abbrev pub mustBeZero : ℕ → List ℕ → ℕ → Row
+mustBeZero k h i = row 6 i (anySet (markedBits k i) (dword h i))
+
+-- Rows 6 to 9 read the own dwords h and what the commands before have set.
+abbrev pub ownRows : ℕ → List ℕ → State → List Row
+ownRows k h st =
+    mustBeZero k h 1
+    ∷ mustBeZero k h 2
+    ∷ mustBeZero k h 3
+    ∷ mustBeZero k h 4
+    ∷ mustBeZero k h 5
+    ∷ mustBeZero k h 6
+    ∷ mustBeZero k h 7
+    -- 7: "CURBE or descriptor length or address not a multiple of 32, or descriptor length outside 32 to 2,048 (H) (place: first such dword)"
+    ∷ row 7 2 (isLoad k && not (eqb (loadLength h % 32) 0))
+    ∷ row 7 2 (eqb k 5 && ltb (loadLength h) 32)
+    ∷ row 7 2 (eqb k 5 && ltb 2048 (loadLength h))
+    ∷ row 7 3 (isLoad k && not (eqb (loadAddress h % 32) 0))
+    -- 8: "kinds 4, 5, 7 need an earlier VFE"
+    ∷ row 8 0 ((isLoad k || eqb k 7) && eqb (st .configured) 0)
+    -- 8: "A VFE needs that no command of kind 3, 4, 5 or 7 stands since the last MI_FLUSH or the start"
+    ∷ row 8 0 (eqb k 3 && not (eqb (st .media) 0))
+    -- 8: "A descriptor load needs that no OBJECT stands since the last kind 1 or 6"
+    ∷ row 8 0 (eqb k 5 && not (eqb (st .unflushed) 0))
+    -- 8: "An OBJECT's index is below the count last loaded"
+    ∷ row 8 0 (eqb k 7 && leb (st .count) (descriptorIndex h))
+    -- 9: "VFE: entries x entry size + CURBE size exceeds the lent capacity in rows"
+    ∷ row 9 0 (eqb k 3 && ltb (st .capacity) (urbEntries h * entrySize h + curbeSize h))
+    -- 9: "CURBE load: length exceeds 32 x CURBE size in force"
+    ∷ row 9 0 (eqb k 4 && ltb (32 * st .curbe) (loadLength h))
+    ∷ []
+
+-- the first row that holds decides
+unfoldable pub headerVerdict : ℕ → ℕ → ℕ → Verdict
+headerVerdict k d left = firstRow Fault Passed (headerRows k d left)
+
+unfoldable pub ownVerdict : ℕ → List ℕ → State → Verdict
+ownVerdict k h st = firstRow Fault Passed (ownRows k h st)
+
+unfoldable pub judgeOf : ℕ → ℕ → List ℕ → State → Verdict
+judgeOf k left h st = firstRow Fault Passed (headerRows k (dword h 0) left ++ ownRows k h st)

@@ -1,0 +1,129 @@
+// A command's first dword, and the dwords of its own.
+ghost use mathlib.Core.Path.{_≡_};
+ghost use Prim.Native.Nat.{_+_, _≤_, _<_, _^_};
+ghost use lib.ListN.{length, drop, getD};
+ghost use Rattle.words.specs.Dwords.{dwordsIn};
+ghost use Rattle.command.specs.Kinds.{kindOf, totalOf, ownDwords, headOf};
+use words::word;
+
+pub fn kind(d: u32) -> u32
+    ensures { λ r. ⌜ r ≡ kindOf d ⌝ }
+{
+    if d == 0 {
+        return 0;
+    }
+    if d == 0x0200_0000 {
+        return 1;
+    }
+    if d == 0x0500_0000 {
+        return 2;
+    }
+    let opcodes = (d >> 16) & 0xffff;
+    if opcodes == 0x7000 {
+        return 3;
+    }
+    if opcodes == 0x7001 {
+        return 4;
+    }
+    if opcodes == 0x7002 {
+        return 5;
+    }
+    if opcodes == 0x7004 {
+        return 6;
+    }
+    if opcodes == 0x7100 {
+        return 7;
+    }
+    255
+}
+
+pub fn total(k: u32, d: u32) -> u32
+    ensures { λ r. ⌜ r ≡ totalOf k d ⌝ }
+{
+    if k < 3 {
+        return 1;
+    }
+    (d & 0xffff) + 2
+}
+
+// An OBJECT: six dwords, no inline data.
+fn object_dwords(dw: &[u32], by: &[u8], at: usize, d: u32) -> [u32; 8]
+    requires { ⌜ (at + 6 ≤ length (dwordsIn (now dw) (now by))) × (at < 2 ^ 32) × (d ≡ getD (dwordsIn (now dw) (now by)) at 0) ⌝ }
+    ensures { λ r. ⌜ r ≡ headOf 7 (drop at (dwordsIn (now (dw .entry)) (now (by .entry)))) ⌝ }
+{
+    [
+        d,
+        word(dw, by, at + 1),
+        word(dw, by, at + 2),
+        word(dw, by, at + 3),
+        word(dw, by, at + 4),
+        word(dw, by, at + 5),
+        0,
+        0,
+    ]
+}
+
+// A VFE: eight.
+fn vfe_dwords(dw: &[u32], by: &[u8], at: usize, d: u32) -> [u32; 8]
+    requires { ⌜ (at + 8 ≤ length (dwordsIn (now dw) (now by))) × (at < 2 ^ 32) × (d ≡ getD (dwordsIn (now dw) (now by)) at 0) ⌝ }
+    ensures { λ r. ⌜ r ≡ headOf 3 (drop at (dwordsIn (now (dw .entry)) (now (by .entry)))) ⌝ }
+{
+    [
+        d,
+        word(dw, by, at + 1),
+        word(dw, by, at + 2),
+        word(dw, by, at + 3),
+        word(dw, by, at + 4),
+        word(dw, by, at + 5),
+        word(dw, by, at + 6),
+        word(dw, by, at + 7),
+    ]
+}
+
+// A load: four.
+fn load_dwords(dw: &[u32], by: &[u8], at: usize, d: u32) -> [u32; 8]
+    requires { ⌜ (at + 4 ≤ length (dwordsIn (now dw) (now by))) × (at < 2 ^ 32) × (d ≡ getD (dwordsIn (now dw) (now by)) at 0) ⌝ }
+    ensures { λ r. ⌜ r ≡ headOf 4 (drop at (dwordsIn (now (dw .entry)) (now (by .entry)))) ⌝ }
+{
+    [
+        d,
+        word(dw, by, at + 1),
+        word(dw, by, at + 2),
+        word(dw, by, at + 3),
+        0,
+        0,
+        0,
+        0,
+    ]
+}
+
+// A state flush: two.
+fn flush_dwords(dw: &[u32], by: &[u8], at: usize, d: u32) -> [u32; 8]
+    requires { ⌜ (at + 2 ≤ length (dwordsIn (now dw) (now by))) × (at < 2 ^ 32) × (d ≡ getD (dwordsIn (now dw) (now by)) at 0) ⌝ }
+    ensures { λ r. ⌜ r ≡ headOf 6 (drop at (dwordsIn (now (dw .entry)) (now (by .entry)))) ⌝ }
+{
+    [d, word(dw, by, at + 1), 0, 0, 0, 0, 0, 0]
+}
+
+// The own dwords of the command of kind k at a place, whose first dword is d.
+pub fn own_dwords(dw: &[u32], by: &[u8], at: usize, k: u32, d: u32) -> [u32; 8]
+    requires { ⌜ (at + ownDwords k ≤ length (dwordsIn (now dw) (now by))) × (at < 2 ^ 32) × (d ≡ getD (dwordsIn (now dw) (now by)) at 0) ⌝ }
+    ensures { λ r. ⌜ r ≡ headOf k (drop at (dwordsIn (now (dw .entry)) (now (by .entry)))) ⌝ }
+{
+    if k == 7 {
+        return object_dwords(dw, by, at, d);
+    }
+    if k == 3 {
+        return vfe_dwords(dw, by, at, d);
+    }
+    if k == 4 {
+        return load_dwords(dw, by, at, d);
+    }
+    if k == 5 {
+        return load_dwords(dw, by, at, d);
+    }
+    if k == 6 {
+        return flush_dwords(dw, by, at, d);
+    }
+    [d, 0, 0, 0, 0, 0, 0, 0]
+}

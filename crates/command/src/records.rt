@@ -1,0 +1,118 @@
+// The 16 words of a record.
+ghost use mathlib.Core.Path.{_≡_};
+ghost use Prim.Native.Nat.{_-_};
+ghost use Rattle.command.specs.Order.{commandOf};
+ghost use Rattle.command.specs.Record.{recordOf};
+use crate::State;
+
+fn inline_count(total: u32) -> u32
+    ensures { λ r. ⌜ r ≡ total - 6 ⌝ }
+{
+    if total < 6 {
+        return 0;
+    }
+    total - 6
+}
+
+fn vfe(h: [u32; 8], at: u32, total: u32, st: State) -> [u32; 16]
+    ensures { λ r. ⌜ r ≡ recordOf (commandOf 3 at total h st) ⌝ }
+{
+    [
+        3,
+        at,
+        total,
+        (h[2] >> 16) & 0xffff,
+        (h[2] >> 8) & 0xff,
+        (h[2] >> 6) & 1,
+        (h[4] >> 16) & 0xffff,
+        h[4] & 0xffff,
+        h[5],
+        h[6],
+        h[7],
+        0,
+        0,
+        0,
+        0,
+        0,
+    ]
+}
+
+fn object(h: [u32; 8], at: u32, total: u32, st: State) -> [u32; 16]
+    ensures { λ r. ⌜ r ≡ recordOf (commandOf 7 at total h st) ⌝ }
+{
+    let inline = inline_count(total);
+    [
+        7,
+        at,
+        total,
+        h[1] & 0x3f,
+        (h[2] >> 21) & 1,
+        (h[2] >> 31) & 1,
+        (h[2] >> 24) & 1,
+        h[4] & 0x1ff,
+        (h[4] >> 16) & 0x1ff,
+        (h[5] >> 16) & 0xf,
+        h[5] & 0xff,
+        inline,
+        h[2] & 0x1_ffff,
+        h[3],
+        st.vfe,
+        st.objects,
+    ]
+}
+
+// The record of the command of kind k at a place, with what the commands before it have set.
+pub fn words(k: u32, h: [u32; 8], at: u32, total: u32, st: State) -> [u32; 16]
+    ensures { λ r. ⌜ r ≡ recordOf (commandOf k at total h st) ⌝ }
+{
+    if k == 7 {
+        return object(h, at, total, st);
+    }
+    if k == 3 {
+        return vfe(h, at, total, st);
+    }
+    if k == 4 {
+        return [
+            4,
+            at,
+            total,
+            h[2] & 0x1_ffff,
+            h[3],
+            0,
+            0,
+            0,
+            0,
+            0,
+            0,
+            0,
+            0,
+            0,
+            0,
+            0,
+        ];
+    }
+    if k == 5 {
+        return [
+            5,
+            at,
+            total,
+            (h[2] & 0x1_ffff) / 32,
+            h[3],
+            0,
+            0,
+            0,
+            0,
+            0,
+            0,
+            0,
+            0,
+            0,
+            0,
+            0,
+        ];
+    }
+    if k == 6 {
+        return [6, at, total, h[1], 0, 0, 0, 0, 0, 0, 0, 0, 0, 0, 0, 0];
+    }
+    [k, at, total, 0, 0, 0, 0, 0, 0, 0, 0, 0, 0, 0, 0, 0]
+}

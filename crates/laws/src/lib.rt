@@ -1,0 +1,1 @@
+// No code: what every other crate cites, stated once.
