@@ -1,1 +1,5 @@
 pub mod Turns
+pub mod Stamps
+pub mod Walk
+pub mod Scans
+pub mod Fills

@@ -22,20 +22,20 @@ use Rattle.batch.specs.Turns.{turned, turnOf}
 
 -- d and k are the first dword at a place and its kind, L the dwords of the batch, w the verdict on the header, as the code has them
 module _ (b : List ℕ) (L at d k : ℕ) (st : State) (w : Verdict) (el : L ≡ length b) (ed : d ≡ getD b at 0) (ek : k ≡ kindOf d) (ew : w ≡ headerVerdict k d (L - at)) where
-  first : getD (drop at b) 0 0 ≡ d
+  pub first : getD (drop at b) 0 0 ≡ d
   first = simp (getD-drop, add-zero) (sym ed)
 
-  left : length (drop at b) ≡ L - at
+  pub left : length (drop at b) ≡ L - at
   left = length-drop at b ∙ ap (λ (n : ℕ). n - at) (sym el)
 
-  turn-is : turnOf (drop at b) st ≡ turned (judgeOf k (L - at) (headOf k (drop at b)) st) k (drop at b) st
+  pub turn-is : turnOf (drop at b) st ≡ turned (judgeOf k (L - at) (headOf k (drop at b)) st) k (drop at b) st
   unfolding turnOf
   turn-is =
       let e : kindOf (getD (drop at b) 0 0) ≡ k = ap kindOf first ∙ sym ek in
       ap (λ (x : ℕ). turned (judgeOf x (length (drop at b)) (headOf x (drop at b)) st) x (drop at b) st) e
       ∙ ap (λ (n : ℕ). turned (judgeOf k n (headOf k (drop at b)) st) k (drop at b) st) left
 
-  head-first : getD (headOf k (drop at b)) 0 0 ≡ d
+  pub head-first : getD (headOf k (drop at b)) 0 0 ≡ d
   unfolding headOf
   head-first = first
 

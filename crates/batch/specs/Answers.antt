@@ -1,51 +1,66 @@
 -- What the batch check answers, and what it leaves in the lent record buffer: document 01, "Why a batch is turned away".
 use Prim.Native.Nat.{ℕ, _*_, _/_, _%_}
-use mathlib.Core.Bool.{not, cond}
+use mathlib.Core.Bool.{cond}
 use mathlib.Core.List.{List}
 use lib.ListN.{length, set}
 use lib.Dec.{ltb, eqb}
 use Rattle.words.specs.Dwords.{dwordsOf, putLe}
 use Rattle.batch.specs.declared.Answer.{Answer}
-use Rattle.batch.specs.Reading.{Stop, ended, stopped, Reading, readingOf}
+use Rattle.batch.specs.declared.Scanned.{Scanned}
+use Rattle.batch.specs.declared.Scanned.the-variants.{Stopped, Ended}
+use Rattle.batch.specs.Reading.{Stop, ended, stopped, readingOf}
 use Rattle.batch.specs.Records.{written}
 
--- "Success returns commands and dwords read, END included"
-abbrev pub accepted : ℕ → ℕ → Answer
-accepted commands dwords = record { number = 0; place = 0; commands = commands; dwords = dwords }
+-- One decision for all that the check gives back: what a refusal (number and place) or success (commands and dwords read) means is the
+-- argument. So the answer and each buffer go by the same rules.
+module _ {A : Type 0} (refused : ℕ → ℕ → A) (accepted : ℕ → ℕ → A) where
+  -- 2 to 9 as the reading says. 10: "all commands pass, but the record buffer has fewer than 16 words per command (place: dwords read)";
+  -- room is the record buffer's words. "Success returns commands and dwords read, END included".
+  abbrev pub atStop : ℕ → ℕ → Stop → A
+  atStop room commands (stopped m p) = refused m p
+  atStop room commands (ended d) = cond (ltb room (16 * commands)) (refused 10 d) (accepted commands d)
 
--- a refusal by its number and its place
-abbrev pub refused : ℕ → ℕ → Answer
-refused number place = record { number = number; place = place; commands = 0; dwords = 0 }
+  -- 1: "over 16,384 dwords (place 0)": the whole slice, before any command is read
+  unfoldable pub decided : ℕ → ℕ → List ℕ → A
+  decided capacity room b =
+      cond (ltb 16384 (length b)) (refused 1 0)
+      (atStop room (length (readingOf capacity b .passed)) (readingOf capacity b .stop))
 
--- 10: "all commands pass, but the record buffer has fewer than 16 words per command (place: dwords read)"
-abbrev pub roomed : ℕ → ℕ → Stop → Answer
-roomed room commands (stopped m p) = refused m p
-roomed room commands (ended dwords) = cond (ltb room (16 * commands)) (refused 10 dwords) (accepted commands dwords)
+  -- The byte entry. 17: "batch .. not a multiple of 4 bytes; checked first (place: its whole dwords). Records there take 64 bytes each":
+  -- room is the record buffer's bytes.
+  unfoldable pub decidedBytes : ℕ → ℕ → List ℕ → A
+  decidedBytes capacity room b =
+      cond (eqb (length b % 4) 0) (decided capacity (room / 4) (dwordsOf b)) (refused 17 (length b / 4))
 
--- The answer for a batch of dwords, a capacity in rows and a record buffer of so many words. 1: "over 16,384 dwords (place 0)", before any
--- command is read.
-unfoldable pub answerOf : ℕ → ℕ → List ℕ → Answer
-answerOf capacity room b =
-    cond (ltb 16384 (length b)) (refused 1 0)
-    (roomed room (length (readingOf capacity b .passed)) (readingOf capacity b .stop))
+-- The answer's numbers. What the paper leaves free, the place on success and the counts on refusal, is 0.
+abbrev pub refusedAnswer : ℕ → ℕ → Answer
+refusedAnswer number place = record { number = number; place = place; commands = 0; dwords = 0 }
 
--- "Nothing lent changes on any refusal of this table"
-abbrev pub unlessRefused : {B : Type 0} → Answer → B → B → B
-unlessRefused a old new = cond (eqb (a .number) 0) new old
+abbrev pub acceptedAnswer : ℕ → ℕ → Answer
+acceptedAnswer commands dwords = record { number = 0; place = 0; commands = commands; dwords = dwords }
 
--- The record buffer at exit: the records of the commands passed, "nothing past them".
-unfoldable pub writtenOf : {B : Type 0} → (B → ℕ → ℕ → B) → ℕ → ℕ → List ℕ → B → B
-writtenOf put capacity room b r = unlessRefused (answerOf capacity room b) r (written put (readingOf capacity b .passed) 0 r)
+-- The record buffer r at exit: "Nothing lent changes on any refusal of this table"; success "fills that many records, nothing past them".
+abbrev pub recorded : {B : Type 0} → (B → ℕ → ℕ → B) → ℕ → List ℕ → B → B
+recorded put capacity b r = written put (readingOf capacity b .passed) 0 r
 
--- the dword entry: a buffer of dwords
-unfoldable pub wordsLeft : ℕ → List ℕ → List ℕ → List ℕ
-wordsLeft capacity b r = writtenOf set capacity (length r) b r
+-- the dword entry, given the capacity in rows, the batch and the record buffer
+unfoldable pub answerOf : ℕ → List ℕ → List ℕ → Answer
+answerOf capacity b r = decided refusedAnswer acceptedAnswer capacity (length r) b
 
--- The byte entry. 17: "batch .. not a multiple of 4 bytes; checked first (place: its whole dwords). Records there take 64 bytes each".
-unfoldable pub bytesAnswerOf : ℕ → ℕ → List ℕ → Answer
-bytesAnswerOf capacity room b =
-    cond (eqb (length b % 4) 0) (answerOf capacity (room / 4) (dwordsOf b)) (refused 17 (length b / 4))
+unfoldable pub recordsOf : ℕ → List ℕ → List ℕ → List ℕ
+recordsOf capacity b r = decided (λ m p. r) (λ c d. recorded set capacity b r) capacity (length r) b
 
-unfoldable pub bytesLeft : ℕ → List ℕ → List ℕ → List ℕ
-bytesLeft capacity b r =
-    cond (eqb (length b % 4) 0) (writtenOf putLe capacity (length r / 4) (dwordsOf b) r) r
+-- the byte entry
+unfoldable pub bytesAnswerOf : ℕ → List ℕ → List ℕ → Answer
+bytesAnswerOf capacity b r = decidedBytes refusedAnswer acceptedAnswer capacity (length r) b
+
+unfoldable pub bytesRecordsOf : ℕ → List ℕ → List ℕ → List ℕ
+bytesRecordsOf capacity b r = decidedBytes (λ m p. r) (λ c d. recorded putLe capacity (dwordsOf b) r) capacity (length r) b
+
+-- what the first pass finds, before 10 is known
+abbrev pub scanned : ℕ → Stop → Scanned
+scanned n (ended d) = Ended n d
+scanned n (stopped m p) = Stopped m p
+
+unfoldable pub scanOf : ℕ → List ℕ → Scanned
+scanOf capacity b = scanned (length (readingOf capacity b .passed)) (readingOf capacity b .stop)

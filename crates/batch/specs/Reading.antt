@@ -17,6 +17,11 @@ pub data Stop : Type 0 where
   ended : ℕ → Stop
   stopped : ℕ → ℕ → Stop
 
+-- a batch read to its END
+abbrev pub Whole : Stop → Type 0
+Whole (ended d) = Unit
+Whole (stopped m p) = ⊥
+
 pub record Reading : Type 0 where
   pub passed : List Command
   pub stop : Stop

@@ -4,10 +4,11 @@ ghost use Prim.Native.Nat.{ℕ, _+_, _-_, _*_, _/_, _^_, _<_, _≤_};
 ghost use lib.ListN.{length, drop};
 ghost use Rattle.words.specs.Dwords.{dwordsIn, buffer, putIn};
 ghost use Rattle.command.specs.Order.{stateOf};
-ghost use Rattle.batch.specs.Reading.{readingOf, ended};
+ghost use Rattle.batch.specs.Reading.{readingOf, Whole};
 ghost use Rattle.batch.specs.Records.{slot, stamp, written};
-ghost use Rattle.batch.specs.Answers.{answerOf, wordsLeft, bytesAnswerOf, bytesLeft};
-ghost use Rattle.batch.specs.Turns.{turnOf};
+ghost use Rattle.batch.specs.Answers.{scanOf, decided, refusedAnswer, acceptedAnswer, recorded, answerOf, recordsOf, bytesAnswerOf, bytesRecordsOf};
+ghost use Rattle.batch.specs.Turns.{turnOf, Passes, onwardOf, here};
+ghost use Rattle.command.specs.Record.{recordOf};
 use command::State;
 use command::Verdict;
 use command::head::kind;
@@ -31,11 +32,23 @@ pub struct Answer {
     pub dwords: u64,
 }
 
+// What the first pass finds: a refusal from 2 to 9, or the end of the batch.
+pub enum Scanned {
+    Stopped { number: u32, place: usize },
+    Ended { commands: usize, dwords: usize },
+}
+
 // What one command leads to: a refusal at a dword of it, the end, or the next command after so many dwords.
 pub enum Turn {
     Refused { number: u32, skip: u32 },
     Last,
     Next { total: u32, st: State },
+}
+
+// Where the second pass goes from a command that passed.
+pub enum Onward {
+    End,
+    Then { total: u32, st: State },
 }
 
 // The command at a place: its first dword, then only the dwords of its own.
@@ -63,4 +76,160 @@ fn advance(dw: &[u32], by: &[u8], len: usize, at: usize, st: State) -> Turn
             }
         }
     }
+}
+
+// The first pass.
+fn scan(dw: &[u32], by: &[u8], capacity: u32) -> Scanned
+    requires { ⌜ length (dwordsIn (now dw) (now by)) ≤ 16384 ⌝ }
+    ensures { λ r. ⌜ r ≡ scanOf capacity (dwordsIn (now (dw .entry)) (now (by .entry))) ⌝ }
+{
+    let len = held(dw, by);
+    let mut at: usize = 0;
+    let mut st = start(capacity);
+    while at < len {
+        match advance(dw, by, len, at, st) {
+            Turn::Refused { number, skip } => {
+                return Scanned::Stopped {
+                    number,
+                    place: at + skip as usize,
+                };
+            }
+            Turn::Last => {
+                return Scanned::Ended {
+                    commands: st.commands as usize + 1,
+                    dwords: at + 1,
+                };
+            }
+            Turn::Next { total, st: next } => {
+                at = at + total as usize;
+                st = next;
+            }
+        }
+    }
+    Scanned::Stopped {
+        number: 2,
+        place: at,
+    }
+}
+
+// Where word f of record i stands in a record buffer.
+pub fn slot_of(i: usize, f: usize) -> usize
+    requires { ⌜ (i < 2 ^ 32) × (f < 16) ⌝ }
+    ensures { λ r. ⌜ r ≡ slot i f ⌝ }
+{
+    16 * i + f
+}
+
+// Writes the words of record i.
+fn put(rd: &mut [u32], rb: &mut [u8], i: usize, w: [u32; 16])
+    requires { ⌜ (16 * i + 16 ≤ length (dwordsIn (now rd) (now rb))) × (i < 2 ^ 32) ⌝ }
+    ensures { λ _. ⌜ buffer (now (rd .exit)) (now (rb .exit)) ≡ stamp putIn (buffer (now (rd .entry)) (now (rb .entry))) i w 16 ⌝ }
+{
+    let mut f: usize = 0;
+    while f < 16 {
+        store_in(rd, rb, slot_of(i, f), w[f]);
+        f += 1;
+    }
+}
+
+// Writes the record of the command at a place.
+fn record_at(dw: &[u32], by: &[u8], at: usize, st: State, rd: &mut [u32], rb: &mut [u8]) -> Onward
+    requires { ⌜ (at < length (dwordsIn (now dw) (now by))) × (at < 16384) × (st .commands ≤ at) × (st .objects ≤ at) × Passes (turnOf (drop at (dwordsIn (now dw) (now by))) st) × (16 * st .commands + 16 ≤ length (dwordsIn (now rd) (now rb))) ⌝ }
+    ensures { λ r. ⌜ (r ≡ onwardOf (drop at (dwordsIn (now (dw .entry)) (now (by .entry)))) st) × (buffer (now (rd .exit)) (now (rb .exit)) ≡ stamp putIn (buffer (now (rd .entry)) (now (rb .entry))) (st .commands) (recordOf (here (drop at (dwordsIn (now (dw .entry)) (now (by .entry)))) at st)) 16) ⌝ }
+{
+    let d = word(dw, by, at);
+    let k = kind(d);
+    let t = total(k, d);
+    let h = own_dwords(dw, by, at, k, d);
+    put(rd, rb, st.commands as usize, words(k, h, at as u32, t, st));
+    if k == 2 {
+        return Onward::End;
+    }
+    Onward::Then {
+        total: t,
+        st: after(k, h, st),
+    }
+}
+
+// The second pass: the record of each command of a batch that passed.
+fn fill(dw: &[u32], by: &[u8], capacity: u32, rd: &mut [u32], rb: &mut [u8])
+    requires { ⌜ (length (dwordsIn (now dw) (now by)) ≤ 16384) × Whole (readingOf capacity (dwordsIn (now dw) (now by)) .stop) × (16 * length (readingOf capacity (dwordsIn (now dw) (now by)) .passed) ≤ length (dwordsIn (now rd) (now rb))) ⌝ }
+    ensures { λ _. ⌜ buffer (now (rd .exit)) (now (rb .exit)) ≡ recorded putIn capacity (dwordsIn (now (dw .entry)) (now (by .entry))) (buffer (now (rd .entry)) (now (rb .entry))) ⌝ }
+{
+    let len = held(dw, by);
+    let mut at: usize = 0;
+    let mut st = start(capacity);
+    while at < len {
+        match record_at(dw, by, at, st, rd, rb) {
+            Onward::End => {
+                return;
+            }
+            Onward::Then { total: t, st: next } => {
+                at = at + t as usize;
+                st = next;
+            }
+        }
+    }
+}
+
+// The check over one source and one record buffer, each lent as dwords or as bytes.
+fn check_in(dw: &[u32], by: &[u8], capacity: u32, rd: &mut [u32], rb: &mut [u8]) -> Answer
+    ensures { λ r. ⌜ (r ≡ decided refusedAnswer acceptedAnswer capacity (length (dwordsIn (now (rd .entry)) (now (rb .entry)))) (dwordsIn (now (dw .entry)) (now (by .entry)))) × (buffer (now (rd .exit)) (now (rb .exit)) ≡ decided (λ m p. buffer (now (rd .entry)) (now (rb .entry))) (λ c d. recorded putIn capacity (dwordsIn (now (dw .entry)) (now (by .entry))) (buffer (now (rd .entry)) (now (rb .entry)))) capacity (length (dwordsIn (now (rd .entry)) (now (rb .entry)))) (dwordsIn (now (dw .entry)) (now (by .entry)))) ⌝ }
+{
+    if 16384 < held(dw, by) {
+        return refused(1, 0);
+    }
+    match scan(dw, by, capacity) {
+        Scanned::Stopped { number, place } => refused(number, place),
+        Scanned::Ended { commands, dwords } => {
+            if held(rd, rb) / 16 < commands {
+                return refused(10, dwords);
+            }
+            fill(dw, by, capacity, rd, rb);
+            accepted(commands, dwords)
+        }
+    }
+}
+
+fn refused(number: u32, place: usize) -> Answer
+    ensures { λ r. ⌜ r ≡ refusedAnswer number place ⌝ }
+{
+    Answer {
+        number: number as u64,
+        place: place as u64,
+        commands: 0,
+        dwords: 0,
+    }
+}
+
+fn accepted(commands: usize, dwords: usize) -> Answer
+    ensures { λ r. ⌜ r ≡ acceptedAnswer commands dwords ⌝ }
+{
+    Answer {
+        number: 0,
+        place: 0,
+        commands: commands as u64,
+        dwords: dwords as u64,
+    }
+}
+
+// The batch check over dwords: may the chip read this batch? On acceptance the records stand in `records`; on refusal it is as it was.
+pub fn check(batch: &[u32], capacity: u32, records: &mut [u32]) -> Answer
+    ensures { λ r. ⌜ (r ≡ answerOf capacity (now (batch .entry)) (now (records .entry))) × (now (records .exit) ≡ recordsOf capacity (now (batch .entry)) (now (records .entry))) ⌝ }
+{
+    let none: [u8; 0] = [];
+    let mut no: [u8; 0] = [];
+    check_in(batch, &none, capacity, records, &mut no)
+}
+
+// The same over little-endian bytes.
+pub fn check_bytes(batch: &[u8], capacity: u32, records: &mut [u8]) -> Answer
+    ensures { λ r. ⌜ (r ≡ bytesAnswerOf capacity (now (batch .entry)) (now (records .entry))) × (now (records .exit) ≡ bytesRecordsOf capacity (now (batch .entry)) (now (records .entry))) ⌝ }
+{
+    if batch.len() % 4 != 0 {
+        return refused(17, batch.len() / 4);
+    }
+    let none: [u32; 0] = [];
+    let mut no: [u32; 0] = [];
+    check_in(&none, batch, capacity, &mut no, records)
 }

@@ -44,6 +44,15 @@ module _ (k left : ℕ) (h : List ℕ) (st : State) where
   unfolding headerVerdict judgeOf
   judge-header m s e = faults (headerRows k (dword h 0) left) (ownRows k h st) m s e
 
+-- a command that passes has passed rows 3 to 5
+first-passes : (xs ys : List Row) → firstRow Fault Passed (xs ++ ys) ≡ Passed → firstRow Fault Passed xs ≡ Passed
+first-passes [] ys e = refl
+first-passes (x ∷ xs) ys e = row-passes x (firstRow Fault Passed (xs ++ ys)) (firstRow Fault Passed xs) Passed (x .holds) (first-passes xs ys) e
+
+pub passed-header : (k left : ℕ) (h : List ℕ) (st : State) → judgeOf k left h st ≡ Passed → headerVerdict k (dword h 0) left ≡ Passed
+unfolding headerVerdict judgeOf
+passed-header k left h st e = first-passes (headerRows k (dword h 0) left) (ownRows k h st) e
+
 -- what rows 3 to 5 leave
 passed-rows : (a b c : Bool) → cond a (Fault 3 0) (cond b (Fault 4 0) (cond c (Fault 5 0) Passed)) ≡ Passed → (b ≡ false) × (c ≡ false)
 passed-rows true b c e = absurd (never 3 0 e)
@@ -68,7 +77,11 @@ unfolding ownDwords
 own-beyond k n l =
     simp (
       le-ltb k 3 (omega arith),
-      ne-eqb k 7 (λ e. omega arith), ne-eqb k 3 (λ e. omega arith), ne-eqb k 4 (λ e. omega arith), ne-eqb k 5 (λ e. omega arith), ne-eqb k 6 (λ e. omega arith),
+      ne-eqb k 7 (λ e. omega arith),
+      ne-eqb k 3 (λ e. omega arith),
+      ne-eqb k 4 (λ e. omega arith),
+      ne-eqb k 5 (λ e. omega arith),
+      ne-eqb k 6 (λ e. omega arith),
     ) (omega arith)
 
 own-total : (k n : ℕ) → lengthAllowed k n ≡ true → ownDwords k ≤ cond (ltb k 3) 1 (n + 2)

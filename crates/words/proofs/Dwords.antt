@@ -53,6 +53,14 @@ unfolding dwordsIn
 in-below dw [] n p q = p
 in-below dw (b ∷ by) n p q = let e = length-dwords (b ∷ by) in omega arith
 
+-- how many dwords a source holds goes by the lengths alone
+pub in-length : (dw by dw′ by′ : List ℕ) → length dw ≡ length dw′ → length by ≡ length by′ → length (dwordsIn dw by) ≡ length (dwordsIn dw′ by′)
+unfolding dwordsIn
+in-length dw [] dw′ [] p q = p
+in-length dw [] dw′ (b ∷ by′) p q = absurd (omega arith)
+in-length dw (b ∷ by) dw′ [] p q = absurd (omega arith)
+in-length dw (b ∷ by) dw′ (b′ ∷ by′) p q = let e = length-dwords (b ∷ by) in let e′ = length-dwords (b′ ∷ by′) in omega arith
+
 -- what `held` and `word` show
 pub held-dwords : (dw by : List ℕ) → length by ≡ 0 → length dw ≡ length (dwordsIn dw by)
 held-dwords dw by e = ap length (sym (in-dwords dw by e))

@@ -1,0 +1,78 @@
+use Rattle.batch.proofs.Fills.{own-passed, onward-laws}
+use borrow.Author.Needs.{needs}
+use Rattle.batch.proofs.record_at.Statement.{statement}
+use Rattle.batch.proofs.record_at.Tie as tie
+use Rattle.batch.proofs.record_at.Reads as reads
+use Rattle.batch.proofs.record_at.Lts as lts
+use Rattle.batch.proofs.put.Reads as put-reads
+use Rattle.command.proofs.head.kind.Reads as kind-reads
+use Rattle.command.proofs.head.own_dwords.Reads as own-dwords-reads
+use Rattle.command.proofs.head.total.Reads as total-reads
+use Rattle.command.proofs.records.words.Reads as words-reads
+use Rattle.command.proofs.states.after.Reads as after-reads
+use Rattle.words.proofs.word.Reads as word-reads
+
+word-requires : tie.Need-word-requires
+word-requires c κs = search needs
+
+kind-requires : tie.Need-kind-requires
+kind-requires c κs = search needs
+
+total-requires : tie.Need-total-requires
+total-requires c κs = search needs
+
+own-dwords-requires : tie.Need-own-dwords-requires
+own-dwords-requires c κs = (search own-passed, search needs, search needs)
+
+cast-put : tie.Need-cast-put
+cast-put c = search needs
+
+cast-words : tie.Need-cast-words
+cast-words c = search needs
+
+words-requires : tie.Need-words-requires
+words-requires c κs = search needs
+
+put-requires : tie.Need-put-requires
+put-requires c κs = search needs
+
+same-length : tie.Need-same-length
+same-length c = search needs
+
+same-length-2 : tie.Need-same-length-2
+same-length-2 c = search needs
+
+returns : tie.Need-returns
+returns c = (search onward-laws, search onward-laws)
+
+after-requires : tie.Need-after-requires
+after-requires c κs = search needs
+
+same-length-3 : tie.Need-same-length-3
+same-length-3 c = search needs
+
+same-length-4 : tie.Need-same-length-4
+same-length-4 c = search needs
+
+returns-2 : tie.Need-returns-2
+returns-2 c = (search onward-laws, search onward-laws)
+
+pub record-at-spec : {M : Type 1} → statement M
+record-at-spec =
+    tie.close
+    (tie.spec
+    word-requires
+    kind-requires
+    total-requires
+    own-dwords-requires
+    cast-put
+    cast-words
+    words-requires
+    put-requires
+    same-length
+    same-length-2
+    returns
+    after-requires
+    same-length-3
+    same-length-4
+    returns-2)
