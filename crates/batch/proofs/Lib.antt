@@ -3,3 +3,4 @@ pub mod Stamps
 pub mod Walk
 pub mod Scans
 pub mod Fills
+pub mod Decisions

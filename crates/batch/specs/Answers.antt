@@ -26,12 +26,6 @@ module _ {A : Type 0} (refused : ℕ → ℕ → A) (accepted : ℕ → ℕ → 
       cond (ltb 16384 (length b)) (refused 1 0)
       (atStop room (length (readingOf capacity b .passed)) (readingOf capacity b .stop))
 
-  -- The byte entry. 17: "batch .. not a multiple of 4 bytes; checked first (place: its whole dwords). Records there take 64 bytes each":
-  -- room is the record buffer's bytes.
-  unfoldable pub decidedBytes : ℕ → ℕ → List ℕ → A
-  decidedBytes capacity room b =
-      cond (eqb (length b % 4) 0) (decided capacity (room / 4) (dwordsOf b)) (refused 17 (length b / 4))
-
 -- The answer's numbers. What the paper leaves free, the place on success and the counts on refusal, is 0.
 abbrev pub refusedAnswer : ℕ → ℕ → Answer
 refusedAnswer number place = record { number = number; place = place; commands = 0; dwords = 0 }
@@ -39,23 +33,28 @@ refusedAnswer number place = record { number = number; place = place; commands =
 abbrev pub acceptedAnswer : ℕ → ℕ → Answer
 acceptedAnswer commands dwords = record { number = 0; place = 0; commands = commands; dwords = dwords }
 
--- The record buffer r at exit: "Nothing lent changes on any refusal of this table"; success "fills that many records, nothing past them".
+-- the record buffer with the records of the commands passed
 abbrev pub recorded : {B : Type 0} → (B → ℕ → ℕ → B) → ℕ → List ℕ → B → B
 recorded put capacity b r = written put (readingOf capacity b .passed) 0 r
+
+-- The record buffer r at exit: "Nothing lent changes on any refusal of this table"; success "fills that many records, nothing past them".
+unfoldable pub recordedIn : {B : Type 0} → (B → ℕ → ℕ → B) → ℕ → ℕ → List ℕ → B → B
+recordedIn put capacity room b r = decided (λ m p. r) (λ c d. recorded put capacity b r) capacity room b
 
 -- the dword entry, given the capacity in rows, the batch and the record buffer
 unfoldable pub answerOf : ℕ → List ℕ → List ℕ → Answer
 answerOf capacity b r = decided refusedAnswer acceptedAnswer capacity (length r) b
 
 unfoldable pub recordsOf : ℕ → List ℕ → List ℕ → List ℕ
-recordsOf capacity b r = decided (λ m p. r) (λ c d. recorded set capacity b r) capacity (length r) b
+recordsOf capacity b r = recordedIn set capacity (length r) b r
 
--- the byte entry
+-- The byte entry. 17: "batch .. not a multiple of 4 bytes; checked first (place: its whole dwords). Records there take 64 bytes each".
 unfoldable pub bytesAnswerOf : ℕ → List ℕ → List ℕ → Answer
-bytesAnswerOf capacity b r = decidedBytes refusedAnswer acceptedAnswer capacity (length r) b
+bytesAnswerOf capacity b r =
+    cond (eqb (length b % 4) 0) (decided refusedAnswer acceptedAnswer capacity (length r / 4) (dwordsOf b)) (refusedAnswer 17 (length b / 4))
 
 unfoldable pub bytesRecordsOf : ℕ → List ℕ → List ℕ → List ℕ
-bytesRecordsOf capacity b r = decidedBytes (λ m p. r) (λ c d. recorded putLe capacity (dwordsOf b) r) capacity (length r) b
+bytesRecordsOf capacity b r = cond (eqb (length b % 4) 0) (recordedIn putLe capacity (length r / 4) (dwordsOf b) r) r
 
 -- what the first pass finds, before 10 is known
 abbrev pub scanned : ℕ → Stop → Scanned

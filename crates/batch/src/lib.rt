@@ -6,7 +6,8 @@ ghost use Rattle.words.specs.Dwords.{dwordsIn, buffer, putIn};
 ghost use Rattle.command.specs.Order.{stateOf};
 ghost use Rattle.batch.specs.Reading.{readingOf, Whole};
 ghost use Rattle.batch.specs.Records.{slot, stamp, written};
-ghost use Rattle.batch.specs.Answers.{scanOf, decided, refusedAnswer, acceptedAnswer, recorded, answerOf, recordsOf, bytesAnswerOf, bytesRecordsOf};
+ghost use Rattle.batch.specs.Answers.{scanOf, decided, refusedAnswer, acceptedAnswer, recorded, recordedIn, answerOf, recordsOf, bytesAnswerOf, bytesRecordsOf};
+ghost use Rattle.batch.specs.declared.Scanned.the-variants.{Stopped, Ended};
 ghost use Rattle.batch.specs.Turns.{turnOf, Passes, onwardOf, here};
 ghost use Rattle.command.specs.Record.{recordOf};
 use command::State;
@@ -172,19 +173,37 @@ fn fill(dw: &[u32], by: &[u8], capacity: u32, rd: &mut [u32], rb: &mut [u8])
     }
 }
 
-// The check over one source and one record buffer, each lent as dwords or as bytes.
-fn check_in(dw: &[u32], by: &[u8], capacity: u32, rd: &mut [u32], rb: &mut [u8]) -> Answer
-    ensures { λ r. ⌜ (r ≡ decided refusedAnswer acceptedAnswer capacity (length (dwordsIn (now (rd .entry)) (now (rb .entry)))) (dwordsIn (now (dw .entry)) (now (by .entry)))) × (buffer (now (rd .exit)) (now (rb .exit)) ≡ decided (λ m p. buffer (now (rd .entry)) (now (rb .entry))) (λ c d. recorded putIn capacity (dwordsIn (now (dw .entry)) (now (by .entry))) (buffer (now (rd .entry)) (now (rb .entry)))) capacity (length (dwordsIn (now (rd .entry)) (now (rb .entry)))) (dwordsIn (now (dw .entry)) (now (by .entry)))) ⌝ }
+// The whole decision, before anything is written: 1 to 10, or the end of the batch. The record buffer has room for so many words.
+fn decide(dw: &[u32], by: &[u8], capacity: u32, room: usize) -> Scanned
+    ensures { λ r. ⌜ r ≡ decided Stopped Ended capacity room (dwordsIn (now (dw .entry)) (now (by .entry))) ⌝ }
 {
     if 16384 < held(dw, by) {
-        return refused(1, 0);
+        return Scanned::Stopped {
+            number: 1,
+            place: 0,
+        };
     }
     match scan(dw, by, capacity) {
+        Scanned::Stopped { number, place } => Scanned::Stopped { number, place },
+        Scanned::Ended { commands, dwords } => {
+            if room / 16 < commands {
+                return Scanned::Stopped {
+                    number: 10,
+                    place: dwords,
+                };
+            }
+            Scanned::Ended { commands, dwords }
+        }
+    }
+}
+
+// The check over one source and one record buffer, each lent as dwords or as bytes.
+fn check_in(dw: &[u32], by: &[u8], capacity: u32, rd: &mut [u32], rb: &mut [u8]) -> Answer
+    ensures { λ r. ⌜ (r ≡ decided refusedAnswer acceptedAnswer capacity (length (dwordsIn (now (rd .entry)) (now (rb .entry)))) (dwordsIn (now (dw .entry)) (now (by .entry)))) × (buffer (now (rd .exit)) (now (rb .exit)) ≡ recordedIn putIn capacity (length (dwordsIn (now (rd .entry)) (now (rb .entry)))) (dwordsIn (now (dw .entry)) (now (by .entry))) (buffer (now (rd .entry)) (now (rb .entry)))) ⌝ }
+{
+    match decide(dw, by, capacity, held(rd, rb)) {
         Scanned::Stopped { number, place } => refused(number, place),
         Scanned::Ended { commands, dwords } => {
-            if held(rd, rb) / 16 < commands {
-                return refused(10, dwords);
-            }
             fill(dw, by, capacity, rd, rb);
             accepted(commands, dwords)
         }
