@@ -132,6 +132,7 @@ module _ (capacity room R : ℕ) (b : List ℕ) (w : Scanned) (er : R ≡ room) 
   kept-recorded c d r′ e q = by-success (λ m p. r) (λ c d. recorded put capacity b r) capacity room R b w er ew c d r′ e q
 
 pub ruleset answers = (by-refusal, by-success)
+
 pub ruleset kept = (kept-refused, kept-recorded)
 
 -- two buffers that agree word by word get the same records

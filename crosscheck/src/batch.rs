@@ -1,0 +1,429 @@
+//! The batch check: sections "The command words" and "Why a batch is turned
+//! away" of document 01.
+//!
+//! The first pass judges and writes nothing; the second decodes what the first
+//! accepted. Inline data is stepped over, and nothing after END is read.
+
+use crate::masks::{self, Masks};
+
+/// The longest batch, in dwords (rule 1).
+pub const LIMIT: usize = 16_384;
+
+/// Words in a record.
+pub const RECORD: usize = 16;
+
+pub const NOOP: u32 = 0x0000_0000;
+pub const FLUSH: u32 = 0x0200_0000;
+pub const END: u32 = 0x0500_0000;
+
+/// Upper halves of the media headers: type, pipeline, opcode and subopcode.
+pub const VFE: u32 = 0x7000;
+pub const CURBE: u32 = 0x7001;
+pub const DESCRIPTOR: u32 = 0x7002;
+pub const STATE_FLUSH: u32 = 0x7004;
+pub const OBJECT: u32 = 0x7100;
+
+/// Dwords of an OBJECT before its inline data.
+const OBJECT_FIXED: usize = 6;
+
+/// What an entry answers. On success the place is 0, on refusal commands and
+/// dwords are 0.
+#[derive(Clone, Copy, Debug, PartialEq, Eq)]
+pub struct Answer {
+    pub number: u64,
+    pub place: u64,
+    pub commands: u64,
+    pub dwords: u64,
+}
+
+impl Answer {
+    pub fn accepted(commands: usize, dwords: usize) -> Self {
+        Answer {
+            number: 0,
+            place: 0,
+            commands: commands as u64,
+            dwords: dwords as u64,
+        }
+    }
+
+    pub fn refused(number: u64, place: usize) -> Self {
+        Answer {
+            number,
+            place: place as u64,
+            commands: 0,
+            dwords: 0,
+        }
+    }
+}
+
+/// The batch check over dwords.
+pub fn check(batch: &[u32], capacity: u32, records: &mut [u32]) -> Answer {
+    check_words(batch, capacity, records.as_chunks_mut().0)
+}
+
+/// The batch check over little-endian bytes; a record takes 64 of them.
+pub fn check_bytes(batch: &[u8], capacity: u32, records: &mut [u8]) -> Answer {
+    let (words, tail) = batch.as_chunks::<4>();
+    if !tail.is_empty() {
+        return Answer::refused(17, words.len());
+    }
+    let (record_words, _) = records.as_chunks_mut::<4>();
+    check_words(words, capacity, record_words.as_chunks_mut().0)
+}
+
+fn check_words<W: Word>(batch: &[W], capacity: u32, records: &mut [[W; RECORD]]) -> Answer {
+    let accepted = match judge(batch, capacity) {
+        Ok(accepted) => accepted,
+        Err(refusal) => return Answer::refused(refusal.number, refusal.place),
+    };
+    match records.get_mut(..accepted.commands) {
+        Some(records) => {
+            decode(batch, records);
+            Answer::accepted(accepted.commands, accepted.dwords)
+        }
+        None => Answer::refused(10, accepted.dwords),
+    }
+}
+
+/// A dword as it lies in a lent buffer: a number, or four bytes, low first.
+pub(crate) trait Word: Copy {
+    fn get(self) -> u32;
+    fn put(value: u32) -> Self;
+}
+
+impl Word for u32 {
+    fn get(self) -> u32 {
+        self
+    }
+    fn put(value: u32) -> Self {
+        value
+    }
+}
+
+impl Word for [u8; 4] {
+    fn get(self) -> u32 {
+        u32::from_le_bytes(self)
+    }
+    fn put(value: u32) -> Self {
+        value.to_le_bytes()
+    }
+}
+
+/// What the first pass learns of an accepted batch.
+pub(crate) struct Accepted {
+    pub commands: usize,
+    pub dwords: usize,
+}
+
+pub(crate) struct Refusal {
+    pub number: u64,
+    pub place: usize,
+}
+
+fn refuse<T>(number: u64, place: usize) -> Result<T, Refusal> {
+    Err(Refusal { number, place })
+}
+
+/// What rules 8 and 9 remember of the commands before.
+#[derive(Default)]
+struct State {
+    /// A VFE stands earlier.
+    vfe: bool,
+    /// A command of kind 3, 4, 5 or 7 stands since the last MI_FLUSH or the start.
+    in_use: bool,
+    /// An OBJECT stands since the last MI_FLUSH or state flush.
+    objects: bool,
+    /// The count last loaded; a VFE keeps it.
+    descriptors: u32,
+    /// 32 x CURBE size in force.
+    curbe_bytes: u32,
+}
+
+/// First pass: rules 1 to 9. Writes nothing.
+pub(crate) fn judge<W: Word>(batch: &[W], capacity: u32) -> Result<Accepted, Refusal> {
+    if batch.len() > LIMIT {
+        return refuse(1, 0);
+    }
+    let mut state = State::default();
+    let mut rest = batch;
+    let mut commands = 0;
+    loop {
+        let place = batch.len() - rest.len();
+        let Some((first, next)) = rest.split_first() else {
+            return refuse(2, place);
+        };
+        let header = first.get();
+        commands += 1;
+        rest = match header >> 16 {
+            OBJECT => object(rest, header, place, &mut state)?,
+            VFE => vfe(rest, header, place, &mut state, capacity)?,
+            CURBE => curbe(rest, header, place, &mut state)?,
+            DESCRIPTOR => descriptor(rest, header, place, &mut state)?,
+            STATE_FLUSH => {
+                let (command, next) = fixed::<W, 2>(rest, header, place)?;
+                must_be_zero(command, &masks::STATE_FLUSH, place)?;
+                state.objects = false;
+                next
+            }
+            // Kinds 0 to 2 match as a whole dword.
+            _ => match header {
+                NOOP => next,
+                FLUSH => {
+                    state.in_use = false;
+                    state.objects = false;
+                    next
+                }
+                END => {
+                    return Ok(Accepted {
+                        commands,
+                        dwords: place + 1,
+                    })
+                }
+                _ => return refuse(3, place),
+            },
+        };
+    }
+}
+
+type Judged<'a, W> = Result<&'a [W], Refusal>;
+
+fn object<'a, W: Word>(
+    rest: &'a [W],
+    header: u32,
+    place: usize,
+    state: &mut State,
+) -> Judged<'a, W> {
+    let total = length_field(header) + 2;
+    if total < OBJECT_FIXED {
+        return refuse(4, place);
+    }
+    let Some((command, next)) = rest.split_at_checked(total) else {
+        return refuse(5, place);
+    };
+    let command = whole::<W, OBJECT_FIXED>(command);
+    must_be_zero(command, &masks::OBJECT, place)?;
+    // A load needs a VFE, so a count above the index means that one stands earlier.
+    if command[1].get() & 0x3f >= state.descriptors {
+        return refuse(8, place);
+    }
+    state.in_use = true;
+    state.objects = true;
+    Ok(next)
+}
+
+fn vfe<'a, W: Word>(
+    rest: &'a [W],
+    header: u32,
+    place: usize,
+    state: &mut State,
+    capacity: u32,
+) -> Judged<'a, W> {
+    let (command, next) = fixed::<W, 8>(rest, header, place)?;
+    must_be_zero(command, &masks::VFE, place)?;
+    if state.in_use {
+        return refuse(8, place);
+    }
+    let entries = command[2].get() >> 8 & 0xff;
+    let entry_size = command[4].get() >> 16;
+    let curbe_size = command[4].get() & 0xffff;
+    // At most 255 x 65,535 + 65,535, so 32 bits hold it.
+    if entries * entry_size + curbe_size > capacity {
+        return refuse(9, place);
+    }
+    state.vfe = true;
+    state.in_use = true;
+    state.curbe_bytes = 32 * curbe_size;
+    Ok(next)
+}
+
+fn curbe<'a, W: Word>(
+    rest: &'a [W],
+    header: u32,
+    place: usize,
+    state: &mut State,
+) -> Judged<'a, W> {
+    let (command, next) = fixed::<W, 4>(rest, header, place)?;
+    must_be_zero(command, &masks::CURBE, place)?;
+    let length = command[2].get() & 0x1_ffff;
+    if !length.is_multiple_of(32) {
+        return refuse(7, place + 2);
+    }
+    if !command[3].get().is_multiple_of(32) {
+        return refuse(7, place + 3);
+    }
+    if !state.vfe {
+        return refuse(8, place);
+    }
+    if length > state.curbe_bytes {
+        return refuse(9, place);
+    }
+    state.in_use = true;
+    Ok(next)
+}
+
+fn descriptor<'a, W: Word>(
+    rest: &'a [W],
+    header: u32,
+    place: usize,
+    state: &mut State,
+) -> Judged<'a, W> {
+    let (command, next) = fixed::<W, 4>(rest, header, place)?;
+    must_be_zero(command, &masks::DESCRIPTOR, place)?;
+    let length = command[2].get() & 0x1_ffff;
+    if !length.is_multiple_of(32) || !(32..=2048).contains(&length) {
+        return refuse(7, place + 2);
+    }
+    if !command[3].get().is_multiple_of(32) {
+        return refuse(7, place + 3);
+    }
+    if !state.vfe || state.objects {
+        return refuse(8, place);
+    }
+    state.in_use = true;
+    state.descriptors = length / 32;
+    Ok(next)
+}
+
+fn length_field(header: u32) -> usize {
+    (header & 0xffff) as usize
+}
+
+/// Rules 4 and 5 for a command of `N` dwords.
+fn fixed<W: Word, const N: usize>(
+    rest: &[W],
+    header: u32,
+    place: usize,
+) -> Result<(&[W; N], &[W]), Refusal> {
+    if length_field(header) + 2 != N {
+        return refuse(4, place);
+    }
+    match rest.split_first_chunk() {
+        Some(split) => Ok(split),
+        None => refuse(5, place),
+    }
+}
+
+/// Rule 6. All dwords are joined first, so that a sound command costs one branch.
+fn must_be_zero<W: Word, const N: usize>(
+    command: &[W; N],
+    masks: &Masks,
+    place: usize,
+) -> Result<(), Refusal> {
+    let stray = (1..N).fold(0, |joined, dword| {
+        joined | command[dword].get() & masks[dword]
+    });
+    match stray {
+        0 => Ok(()),
+        _ => refuse(6, place + first_stray(command, masks)),
+    }
+}
+
+/// The first dword with a must-be-zero bit set. Kept out of the sound command's way.
+#[cold]
+#[inline(never)]
+fn first_stray<W: Word>(command: &[W], masks: &Masks) -> usize {
+    let mut dwords = command.iter().zip(masks);
+    dwords
+        .position(|(word, mask)| word.get() & mask != 0)
+        .expect("a must-be-zero bit is set")
+}
+
+/// The first `N` dwords of a command already known to hold them.
+fn whole<W: Word, const N: usize>(command: &[W]) -> &[W; N] {
+    command.first_chunk().expect("a command judged whole")
+}
+
+/// Second pass: fills one record per command of a batch that `judge` accepted.
+pub(crate) fn decode<W: Word>(batch: &[W], records: &mut [[W; RECORD]]) {
+    let mut rest = batch;
+    let mut vfe = 0;
+    let mut objects = 0;
+    for (number, record) in records.iter_mut().enumerate() {
+        let place = (batch.len() - rest.len()) as u32;
+        let header = rest[0].get();
+        let total = match header >> 16 {
+            OBJECT => {
+                let inline = (header & 0xffff) - 4;
+                let [_, w1, w2, w3, w4, w5] = whole::<W, OBJECT_FIXED>(rest).map(W::get);
+                *record = [
+                    7,
+                    place,
+                    inline + 6,
+                    w1 & 0x3f,
+                    w2 >> 21 & 1,
+                    w2 >> 31,
+                    w2 >> 24 & 1,
+                    w4 & 0x1ff,
+                    w4 >> 16 & 0x1ff,
+                    w5 >> 16 & 0xf,
+                    w5 & 0xff,
+                    inline,
+                    w2 & 0x1_ffff,
+                    w3,
+                    vfe,
+                    objects,
+                ]
+                .map(W::put);
+                objects += 1;
+                inline as usize + 6
+            }
+            VFE => {
+                let [_, _, w2, _, w4, w5, w6, w7] = whole::<W, 8>(rest).map(W::get);
+                let fields = [
+                    w2 >> 16,
+                    w2 >> 8 & 0xff,
+                    w2 >> 6 & 1,
+                    w4 >> 16,
+                    w4 & 0xffff,
+                    w5,
+                    w6,
+                    w7,
+                ];
+                *record = padded(3, place, 8, fields);
+                vfe = number as u32;
+                8
+            }
+            CURBE => {
+                let [_, _, w2, w3] = whole::<W, 4>(rest).map(W::get);
+                *record = padded(4, place, 4, [w2 & 0x1_ffff, w3]);
+                4
+            }
+            DESCRIPTOR => {
+                let [_, _, w2, w3] = whole::<W, 4>(rest).map(W::get);
+                *record = padded(5, place, 4, [(w2 & 0x1_ffff) / 32, w3]);
+                4
+            }
+            STATE_FLUSH => {
+                let [_, w1] = whole::<W, 2>(rest).map(W::get);
+                *record = padded(6, place, 2, [w1]);
+                2
+            }
+            _ => {
+                let kind = match header {
+                    NOOP => 0,
+                    FLUSH => 1,
+                    _ => 2,
+                };
+                *record = padded(kind, place, 1, []);
+                1
+            }
+        };
+        rest = &rest[total..];
+    }
+}
+
+/// Kind, place, total, the fields, then zeros.
+fn padded<W: Word, const N: usize>(
+    kind: u32,
+    place: u32,
+    total: u32,
+    fields: [u32; N],
+) -> [W; RECORD] {
+    let mut record = [0; RECORD];
+    record[..3].copy_from_slice(&[kind, place, total]);
+    record[3..3 + N].copy_from_slice(&fields);
+    record.map(W::put)
+}
+
+#[cfg(test)]
+mod tests;

@@ -1,0 +1,71 @@
+//! The library's C interface, with safe wrappers.
+
+use crate::batch::Answer;
+
+#[repr(C)]
+struct MplBatch {
+    number: u64,
+    place: u64,
+    commands: u64,
+    dwords: u64,
+}
+
+extern "C" {
+    fn mpl_check_batch(
+        batch: *const u8,
+        batch_len: usize,
+        capacity: u32,
+        records: *mut u8,
+        records_len: usize,
+    ) -> MplBatch;
+
+    fn mpl_check_batch_dwords(
+        batch: *const u32,
+        batch_len: usize,
+        capacity: u32,
+        records: *mut u32,
+        records_len: usize,
+    ) -> MplBatch;
+}
+
+impl From<MplBatch> for Answer {
+    fn from(answer: MplBatch) -> Self {
+        Answer {
+            number: answer.number,
+            place: answer.place,
+            commands: answer.commands,
+            dwords: answer.dwords,
+        }
+    }
+}
+
+/// The batch check over little-endian bytes.
+pub fn check_batch(batch: &[u8], capacity: u32, records: &mut [u8]) -> Answer {
+    // SAFETY: both slices are live for the call and do not overlap; a slice's
+    // pointer is never null and is aligned, also at length 0.
+    unsafe {
+        mpl_check_batch(
+            batch.as_ptr(),
+            batch.len(),
+            capacity,
+            records.as_mut_ptr(),
+            records.len(),
+        )
+    }
+    .into()
+}
+
+/// The batch check over dwords.
+pub fn check_batch_dwords(batch: &[u32], capacity: u32, records: &mut [u32]) -> Answer {
+    // SAFETY: as above; the lengths are in dwords.
+    unsafe {
+        mpl_check_batch_dwords(
+            batch.as_ptr(),
+            batch.len(),
+            capacity,
+            records.as_mut_ptr(),
+            records.len(),
+        )
+    }
+    .into()
+}

@@ -1,0 +1,3 @@
+//! Generators of cases, one module per subject.
+
+pub mod batch;

@@ -1,0 +1,12 @@
+//! Second implementation of the checks of document 01, written apart from the
+//! library, with generators of cases and the comparison of the two.
+//!
+//! One module per check; `ffi` calls the library, `compare` sets both side by side.
+
+pub mod batch;
+pub mod compare;
+pub mod ffi;
+pub mod generate;
+pub mod guard;
+pub mod masks;
+pub mod random;
