@@ -4,3 +4,5 @@ pub mod Walk
 pub mod Scans
 pub mod Fills
 pub mod Decisions
+pub mod Same
+pub mod Laid

@@ -1,4 +1,6 @@
 pub mod Reading
 pub mod Records
 pub mod Answers
+pub mod Unread
+pub mod EndToEnd
 pub mod Turns

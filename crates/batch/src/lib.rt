@@ -1,9 +1,9 @@
 // The batch check: a pass that answers and writes nothing, then a pass that writes the records.
 ghost use mathlib.Core.Path.{_≡_};
 ghost use Prim.Native.Nat.{ℕ, _+_, _-_, _*_, _/_, _^_, _<_, _≤_};
-ghost use lib.ListN.{length, drop};
+ghost use lib.ListN.{length, getD, drop};
 ghost use Rattle.words.specs.Dwords.{dwordsIn, buffer, putIn};
-ghost use Rattle.command.specs.Order.{stateOf};
+ghost use Rattle.command.specs.Kinds.{kindOf};
 ghost use Rattle.batch.specs.Reading.{readingOf, Whole};
 ghost use Rattle.batch.specs.Records.{slot, stamp, written};
 ghost use Rattle.batch.specs.Answers.{scanOf, decided, refusedAnswer, acceptedAnswer, recorded, recordedIn, answerOf, recordsOf, bytesAnswerOf, bytesRecordsOf};
@@ -52,13 +52,11 @@ pub enum Onward {
     Then { total: u32, st: State },
 }
 
-// The command at a place: its first dword, then only the dwords of its own.
-fn advance(dw: &[u32], by: &[u8], len: usize, at: usize, st: State) -> Turn
-    requires { ⌜ (len ≡ length (dwordsIn (now dw) (now by))) × (at < len) × (len < 2 ^ 32) × (st .commands + 1 < 2 ^ 32) × (st .objects + 1 < 2 ^ 32) ⌝ }
+// The command of kind k at a place, whose first dword is d: that dword, then only the dwords of its own.
+fn advance_as(dw: &[u32], by: &[u8], len: usize, at: usize, k: u32, d: u32, st: State) -> Turn
+    requires { ⌜ (len ≡ length (dwordsIn (now dw) (now by))) × (at < len) × (len < 2 ^ 32) × (d ≡ getD (dwordsIn (now dw) (now by)) at 0) × (k ≡ kindOf d) × (st .commands + 1 < 2 ^ 32) × (st .objects + 1 < 2 ^ 32) ⌝ }
     ensures { λ r. ⌜ r ≡ turnOf (drop at (dwordsIn (now (dw .entry)) (now (by .entry)))) st ⌝ }
 {
-    let d = word(dw, by, at);
-    let k = kind(d);
     match header_verdict(k, d, len - at) {
         Verdict::Fault { number, skip } => Turn::Refused { number, skip },
         Verdict::Passed => {
@@ -77,6 +75,22 @@ fn advance(dw: &[u32], by: &[u8], len: usize, at: usize, st: State) -> Turn
             }
         }
     }
+}
+
+// The command at a place. A kind that is a constant in the call gets code of its own: OBJECTs and no-ops are most of a batch.
+fn advance(dw: &[u32], by: &[u8], len: usize, at: usize, st: State) -> Turn
+    requires { ⌜ (len ≡ length (dwordsIn (now dw) (now by))) × (at < len) × (len < 2 ^ 32) × (st .commands + 1 < 2 ^ 32) × (st .objects + 1 < 2 ^ 32) ⌝ }
+    ensures { λ r. ⌜ r ≡ turnOf (drop at (dwordsIn (now (dw .entry)) (now (by .entry)))) st ⌝ }
+{
+    let d = word(dw, by, at);
+    let k = kind(d);
+    if k == 7 {
+        return advance_as(dw, by, len, at, 7, d, st);
+    }
+    if k == 0 {
+        return advance_as(dw, by, len, at, 0, d, st);
+    }
+    advance_as(dw, by, len, at, k, d, st)
 }
 
 // The first pass.
@@ -133,13 +147,20 @@ fn put(rd: &mut [u32], rb: &mut [u8], i: usize, w: [u32; 16])
     }
 }
 
-// Writes the record of the command at a place.
-fn record_at(dw: &[u32], by: &[u8], at: usize, st: State, rd: &mut [u32], rb: &mut [u8]) -> Onward
-    requires { ⌜ (at < length (dwordsIn (now dw) (now by))) × (at < 16384) × (st .commands ≤ at) × (st .objects ≤ at) × Passes (turnOf (drop at (dwordsIn (now dw) (now by))) st) × (16 * st .commands + 16 ≤ length (dwordsIn (now rd) (now rb))) ⌝ }
+// Writes the record of the command of kind k at a place, whose first dword is d.
+fn record_as(
+    dw: &[u32],
+    by: &[u8],
+    at: usize,
+    k: u32,
+    d: u32,
+    st: State,
+    rd: &mut [u32],
+    rb: &mut [u8],
+) -> Onward
+    requires { ⌜ (at < length (dwordsIn (now dw) (now by))) × (at < 16384) × (d ≡ getD (dwordsIn (now dw) (now by)) at 0) × (k ≡ kindOf d) × (st .commands ≤ at) × (st .objects ≤ at) × Passes (turnOf (drop at (dwordsIn (now dw) (now by))) st) × (16 * st .commands + 16 ≤ length (dwordsIn (now rd) (now rb))) ⌝ }
     ensures { λ r. ⌜ (r ≡ onwardOf (drop at (dwordsIn (now (dw .entry)) (now (by .entry)))) st) × (buffer (now (rd .exit)) (now (rb .exit)) ≡ stamp putIn (buffer (now (rd .entry)) (now (rb .entry))) (st .commands) (recordOf (here (drop at (dwordsIn (now (dw .entry)) (now (by .entry)))) at st)) 16) ⌝ }
 {
-    let d = word(dw, by, at);
-    let k = kind(d);
     let t = total(k, d);
     let h = own_dwords(dw, by, at, k, d);
     put(rd, rb, st.commands as usize, words(k, h, at as u32, t, st));
@@ -150,6 +171,22 @@ fn record_at(dw: &[u32], by: &[u8], at: usize, st: State, rd: &mut [u32], rb: &m
         total: t,
         st: after(k, h, st),
     }
+}
+
+// Writes the record of the command at a place, with code of its own for OBJECTs and for no-ops.
+fn record_at(dw: &[u32], by: &[u8], at: usize, st: State, rd: &mut [u32], rb: &mut [u8]) -> Onward
+    requires { ⌜ (at < length (dwordsIn (now dw) (now by))) × (at < 16384) × (st .commands ≤ at) × (st .objects ≤ at) × Passes (turnOf (drop at (dwordsIn (now dw) (now by))) st) × (16 * st .commands + 16 ≤ length (dwordsIn (now rd) (now rb))) ⌝ }
+    ensures { λ r. ⌜ (r ≡ onwardOf (drop at (dwordsIn (now (dw .entry)) (now (by .entry)))) st) × (buffer (now (rd .exit)) (now (rb .exit)) ≡ stamp putIn (buffer (now (rd .entry)) (now (rb .entry))) (st .commands) (recordOf (here (drop at (dwordsIn (now (dw .entry)) (now (by .entry)))) at st)) 16) ⌝ }
+{
+    let d = word(dw, by, at);
+    let k = kind(d);
+    if k == 7 {
+        return record_as(dw, by, at, 7, d, st, rd, rb);
+    }
+    if k == 0 {
+        return record_as(dw, by, at, 0, d, st, rd, rb);
+    }
+    record_as(dw, by, at, k, d, st, rd, rb)
 }
 
 // The second pass: the record of each command of a batch that passed.

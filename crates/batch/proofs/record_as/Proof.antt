@@ -1,22 +1,14 @@
 use Rattle.batch.proofs.Fills.{own-passed, onward-laws}
 use borrow.Author.Needs.{needs}
-use Rattle.batch.proofs.record_at.Statement.{statement}
-use Rattle.batch.proofs.record_at.Tie as tie
-use Rattle.batch.proofs.record_at.Reads as reads
-use Rattle.batch.proofs.record_at.Lts as lts
+use Rattle.batch.proofs.record_as.Statement.{statement}
+use Rattle.batch.proofs.record_as.Tie as tie
+use Rattle.batch.proofs.record_as.Reads as reads
+use Rattle.batch.proofs.record_as.Lts as lts
 use Rattle.batch.proofs.put.Reads as put-reads
-use Rattle.command.proofs.head.kind.Reads as kind-reads
 use Rattle.command.proofs.head.own_dwords.Reads as own-dwords-reads
 use Rattle.command.proofs.head.total.Reads as total-reads
 use Rattle.command.proofs.records.words.Reads as words-reads
 use Rattle.command.proofs.states.after.Reads as after-reads
-use Rattle.words.proofs.word.Reads as word-reads
-
-word-requires : tie.Need-word-requires
-word-requires c κs = search needs
-
-kind-requires : tie.Need-kind-requires
-kind-requires c κs = search needs
 
 total-requires : tie.Need-total-requires
 total-requires c κs = search needs
@@ -55,14 +47,12 @@ same-length-4 : tie.Need-same-length-4
 same-length-4 c = search needs
 
 returns-2 : tie.Need-returns-2
-returns-2 c = (search onward-laws, search onward-laws)
+returns-2 c = (search (onward-laws, c .before .before .before .before .before .before .before .before .before .before .before .before .before .before .before .before .before .pre .2, c .before .before .before .before .before .before .before .before .before .before .before .before .before .before .before .before .before .pre .3), search (onward-laws, c .before .before .before .before .before .before .before .before .before .before .before .before .before .before .before .before .before .pre .2, c .before .before .before .before .before .before .before .before .before .before .before .before .before .before .before .before .before .pre .3))
 
-pub record-at-spec : {M : Type 1} → statement M
-record-at-spec =
+pub record-as-spec : {M : Type 1} → statement M
+record-as-spec =
     tie.close
     (tie.spec
-    word-requires
-    kind-requires
     total-requires
     own-dwords-requires
     cast-put
