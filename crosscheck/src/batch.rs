@@ -72,16 +72,25 @@ pub fn check_bytes(batch: &[u8], capacity: u32, records: &mut [u8]) -> Answer {
 }
 
 fn check_words<W: Word>(batch: &[W], capacity: u32, records: &mut [[W; RECORD]]) -> Answer {
-    let accepted = match judge(batch, capacity) {
-        Ok(accepted) => accepted,
-        Err(refusal) => return Answer::refused(refusal.number, refusal.place),
-    };
-    match records.get_mut(..accepted.commands) {
-        Some(records) => {
+    match admit(batch, capacity, records) {
+        Ok((accepted, records)) => {
             decode(batch, records);
             Answer::accepted(accepted.commands, accepted.dwords)
         }
-        None => Answer::refused(10, accepted.dwords),
+        Err(refusal) => Answer::refused(refusal.number, refusal.place),
+    }
+}
+
+/// Rules 1 to 10. Writes nothing; gives the records that `decode` is to fill.
+pub(crate) fn admit<'a, W: Word>(
+    batch: &[W],
+    capacity: u32,
+    records: &'a mut [[W; RECORD]],
+) -> Result<(Accepted, &'a mut [[W; RECORD]]), Refusal> {
+    let accepted = judge(batch, capacity)?;
+    match records.get_mut(..accepted.commands) {
+        Some(records) => Ok((accepted, records)),
+        None => refuse(10, accepted.dwords),
     }
 }
 
@@ -113,6 +122,7 @@ impl Word for [u8; 4] {
 pub(crate) struct Accepted {
     pub commands: usize,
     pub dwords: usize,
+    pub objects: usize,
 }
 
 pub(crate) struct Refusal {
@@ -132,7 +142,9 @@ struct State {
     /// A command of kind 3, 4, 5 or 7 stands since the last MI_FLUSH or the start.
     in_use: bool,
     /// An OBJECT stands since the last MI_FLUSH or state flush.
-    objects: bool,
+    objects_stand: bool,
+    /// OBJECTs so far.
+    objects: usize,
     /// The count last loaded; a VFE keeps it.
     descriptors: u32,
     /// 32 x CURBE size in force.
@@ -140,7 +152,7 @@ struct State {
 }
 
 /// First pass: rules 1 to 9. Writes nothing.
-pub(crate) fn judge<W: Word>(batch: &[W], capacity: u32) -> Result<Accepted, Refusal> {
+fn judge<W: Word>(batch: &[W], capacity: u32) -> Result<Accepted, Refusal> {
     if batch.len() > LIMIT {
         return refuse(1, 0);
     }
@@ -162,7 +174,7 @@ pub(crate) fn judge<W: Word>(batch: &[W], capacity: u32) -> Result<Accepted, Ref
             STATE_FLUSH => {
                 let (command, next) = fixed::<W, 2>(rest, header, place)?;
                 must_be_zero(command, &masks::STATE_FLUSH, place)?;
-                state.objects = false;
+                state.objects_stand = false;
                 next
             }
             // Kinds 0 to 2 match as a whole dword.
@@ -170,13 +182,14 @@ pub(crate) fn judge<W: Word>(batch: &[W], capacity: u32) -> Result<Accepted, Ref
                 NOOP => next,
                 FLUSH => {
                     state.in_use = false;
-                    state.objects = false;
+                    state.objects_stand = false;
                     next
                 }
                 END => {
                     return Ok(Accepted {
                         commands,
                         dwords: place + 1,
+                        objects: state.objects,
                     })
                 }
                 _ => return refuse(3, place),
@@ -207,7 +220,8 @@ fn object<'a, W: Word>(
         return refuse(8, place);
     }
     state.in_use = true;
-    state.objects = true;
+    state.objects_stand = true;
+    state.objects += 1;
     Ok(next)
 }
 
@@ -276,7 +290,7 @@ fn descriptor<'a, W: Word>(
     if !command[3].get().is_multiple_of(32) {
         return refuse(7, place + 3);
     }
-    if !state.vfe || state.objects {
+    if !state.vfe || state.objects_stand {
         return refuse(8, place);
     }
     state.in_use = true;

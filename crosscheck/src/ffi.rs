@@ -2,6 +2,16 @@
 
 use crate::batch::Answer;
 
+#[cfg(feature = "order")]
+mod order;
+#[cfg(feature = "order")]
+pub use order::{check_order, check_order_dwords, deltas_in_play};
+
+#[cfg(feature = "replay")]
+mod replay;
+#[cfg(feature = "replay")]
+pub use replay::replay;
+
 #[repr(C)]
 struct MplBatch {
     number: u64,

@@ -3,7 +3,7 @@
 use crate::random::Random;
 
 /// What a lent buffer may hold: bytes or dwords.
-pub trait Cell: Copy + PartialEq + std::fmt::LowerHex {
+pub trait Cell: Copy + PartialEq + From<u8> + std::fmt::LowerHex {
     fn random(random: &mut Random, count: usize) -> Vec<Self>;
 }
 

@@ -2,6 +2,7 @@
 //! library, with generators of cases and the comparison of the two.
 //!
 //! One module per check; `ffi` calls the library, `compare` sets both side by side.
+//! Features `order` and `replay` switch on what needs those entries of the library.
 
 pub mod batch;
 pub mod compare;
@@ -9,4 +10,6 @@ pub mod ffi;
 pub mod generate;
 pub mod guard;
 pub mod masks;
+pub mod order;
 pub mod random;
+pub mod replay;

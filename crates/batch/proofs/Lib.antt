@@ -5,4 +5,6 @@ pub mod Scans
 pub mod Fills
 pub mod Decisions
 pub mod Same
-pub mod Laid
+pub mod Acceptance
+pub mod EndToEnd
+pub mod Slots

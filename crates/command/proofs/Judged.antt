@@ -1,12 +1,13 @@
 -- Rows 3 to 5, then rows 6 to 9; and what a command that passes keeps to. Assumes nothing.
-use mathlib.Core.Path.{_≡_, refl, sym, ap, _∙_}
-use mathlib.Core.Bool.{Bool, true, false, cond, not}
+use mathlib.Core.Path.{_≡_, refl, sym, ap, subst, _∙_}
+use mathlib.Core.Bool.{Bool, true, false, cond, not, _&&_}
 use Prim.Native.Nat.{ℕ, zero, suc, _+_, _≤_, _<_}
 use native.Mathlib.Omega.{arith}
 use mathlib.Core.List.{List, [], _∷_, _++_}
-use lib.Dec.{eqb, ltb, leb}
-use borrow.Author.Tests.{ltb-false, ltb-true, leb-true, eqb-true, ne-eqb, le-ltb, not-false}
+use lib.Dec.{T, eqb, ltb, leb}
+use borrow.Author.Tests.{ltb-false, ltb-true, leb-true, eqb-true, eq-eqb, ne-eqb, le-ltb, not-false}
 use Rattle.laws.specs.Rows.{Row, firstRow}
+use Rattle.laws.proofs.Tests.{both-left, both-right}
 use Rattle.command.specs.declared.State.{State}
 use Rattle.command.specs.declared.Verdict.{Verdict}
 use Rattle.command.specs.declared.Verdict.the-variants.{Fault, Passed}
@@ -111,3 +112,25 @@ total-pos k d = go (ltb k 3)
     go : (t : Bool) → 1 ≤ cond t 1 (lengthField d + 2)
     go true = omega arith
     go false = omega arith
+
+-- No refusal has the number 0, which is kept for success: one computed test over the rows.
+numbered : List Row → Bool
+numbered [] = true
+numbered (r ∷ rs) = not (eqb (r .number) 0) && numbered rs
+
+row-number : (x : Row) (u : Verdict) (t : Bool) (m s : ℕ) → T (not (eqb (x .number) 0)) → (u ≡ Fault m s → m ≡ 0 → ⊥) → cond t (Fault (x .number) (x .place)) u ≡ Fault m s → m ≡ 0 → ⊥
+row-number x u true m s q ih e z =
+    let y : x .number ≡ m = cc in
+    let w : eqb (x .number) 0 ≡ true = eq-eqb (x .number) 0 (y ∙ z) in subst (λ (b : Bool). T (not b)) w q
+row-number x u false m s q ih e z = ih e z
+
+first-number : (rs : List Row) (m s : ℕ) → T (numbered rs) → firstRow Fault Passed rs ≡ Fault m s → m ≡ 0 → ⊥
+unfolding numbered
+first-number [] m s q e z = never m s (sym e)
+first-number (x ∷ xs) m s q e z =
+    row-number x (firstRow Fault Passed xs) (x .holds) m s (both-left (not (eqb (x .number) 0)) (numbered xs) q)
+    (first-number xs m s (both-right (not (eqb (x .number) 0)) (numbered xs) q)) e z
+
+pub fault-number : (k left : ℕ) (h : List ℕ) (st : State) (m s : ℕ) → judgeOf k left h st ≡ Fault m s → m ≡ 0 → ⊥
+unfolding judgeOf numbered
+fault-number k left h st m s e z = first-number (headerRows k (dword h 0) left ++ ownRows k h st) m s tt e z

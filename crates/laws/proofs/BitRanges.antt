@@ -10,6 +10,7 @@ use lib.Pow.{pow-pos}
 use lib.Dec.{T, eqb, eqb→eq, ltb, ltb→lt}
 use lib.ListN.{getD}
 use borrow.Author.Tests.{ne-eqb}
+use Rattle.laws.proofs.Tests.{both-left, both-right}
 use Rattle.laws.specs.BitRanges.{Bits, bits, field, anySet, maskOf, apart, masksOf, tableOf}
 
 -- the law between a range of bits and the code's shift and mask
@@ -22,13 +23,6 @@ pub taken-low : (h d : ℕ) → field (bits h 0) d ≡ bitAnd d (2 ^ (h - 0 + 1)
 unfolding field
 taken-low h d = let e : d / 2 ^ 0 ≡ d = omega arith in ap (λ (x : ℕ). x % 2 ^ (h - 0 + 1)) e ∙ sym (and-mask d (h - 0 + 1))
 
-left : (a b : Bool) → T (a && b) → T a
-left true b t = tt
-left false b t = t
-
-right : (a b : Bool) → T (a && b) → T b
-right true b t = t
-right false b t = absurd t
 
 some : (x y p : ℕ) → 0 < p → not (eqb x 0) || not (eqb y 0) ≡ not (eqb (x * p + y) 0)
 some zero y p h = let e : y ≡ 0 * p + y = omega arith in ap (λ (n : ℕ). not (eqb n 0)) e
@@ -53,8 +47,8 @@ pub marked : (rs : List Bits) (d : ℕ) → T (apart rs) → anySet rs d ≡ not
 unfolding anySet field
 marked [] d t = ap (λ (n : ℕ). not (eqb n 0)) (sym (and-zero-r d))
 marked (r ∷ rs) d t =
-    let h = ltb→lt (maskOf rs) (2 ^ (r .low)) (left (ltb (maskOf rs) (2 ^ (r .low))) (apart rs) t) in
-    ap (λ (b : Bool). not (eqb (field r d) 0) || b) (marked rs d (right (ltb (maskOf rs) (2 ^ (r .low))) (apart rs) t))
+    let h = ltb→lt (maskOf rs) (2 ^ (r .low)) (both-left (ltb (maskOf rs) (2 ^ (r .low))) (apart rs) t) in
+    ap (λ (b : Bool). not (eqb (field r d) 0) || b) (marked rs d (both-right (ltb (maskOf rs) (2 ^ (r .low))) (apart rs) t))
     ∙ some (field r d) (bitAnd d (maskOf rs)) (2 ^ (r .low)) (pow-pos (r .low))
     ∙ ap (λ (n : ℕ). not (eqb n 0)) (sym (step d (r .high - r .low + 1) (r .low) (maskOf rs) h))
 
@@ -63,16 +57,16 @@ by-row [] [] t m d = marked [] d tt
 by-row [] (x ∷ xs) t m d = absurd t
 by-row (r ∷ rs) [] t m d = absurd t
 by-row (r ∷ rs) (x ∷ xs) t zero d =
-    let u = right (apart r) (eqb x (maskOf r) && masksOf rs xs) t in
-    marked r d (left (apart r) (eqb x (maskOf r) && masksOf rs xs) t)
-    ∙ ap (λ (n : ℕ). not (eqb (bitAnd d n) 0)) (sym (eqb→eq x (maskOf r) (left (eqb x (maskOf r)) (masksOf rs xs) u)))
+    let u = both-right (apart r) (eqb x (maskOf r) && masksOf rs xs) t in
+    marked r d (both-left (apart r) (eqb x (maskOf r) && masksOf rs xs) t)
+    ∙ ap (λ (n : ℕ). not (eqb (bitAnd d n) 0)) (sym (eqb→eq x (maskOf r) (both-left (eqb x (maskOf r)) (masksOf rs xs) u)))
 by-row (r ∷ rs) (x ∷ xs) t (suc m) d =
-    by-row rs xs (right (eqb x (maskOf r)) (masksOf rs xs) (right (apart r) (eqb x (maskOf r) && masksOf rs xs) t)) m d
+    by-row rs xs (both-right (eqb x (maskOf r)) (masksOf rs xs) (both-right (apart r) (eqb x (maskOf r) && masksOf rs xs) t)) m d
 
 -- The rule of any table that passes the computed test: entry i of row k tests the marked ranges of its place, and past the end nothing.
 pub by-table : (rs : List (List (List Bits))) (xs : List (List ℕ)) → T (tableOf rs xs) → (k i d : ℕ) → anySet (getD (getD rs k []) i []) d ≡ not (eqb (bitAnd d (getD (getD xs k []) i 0)) 0)
 by-table [] [] t k i d = by-row [] [] tt i d
 by-table [] (x ∷ xs) t k i d = absurd t
 by-table (r ∷ rs) [] t k i d = absurd t
-by-table (r ∷ rs) (x ∷ xs) t zero i d = by-row r x (left (masksOf r x) (tableOf rs xs) t) i d
-by-table (r ∷ rs) (x ∷ xs) t (suc k) i d = by-table rs xs (right (masksOf r x) (tableOf rs xs) t) k i d
+by-table (r ∷ rs) (x ∷ xs) t zero i d = by-row r x (both-left (masksOf r x) (tableOf rs xs) t) i d
+by-table (r ∷ rs) (x ∷ xs) t (suc k) i d = by-table rs xs (both-right (masksOf r x) (tableOf rs xs) t) k i d

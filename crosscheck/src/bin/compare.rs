@@ -1,25 +1,52 @@
 //! Compares the library with the second implementation on seeded cases.
 //!
-//! `compare [cases [seed [index]]]`: random cases per subject on top of the
-//! fixed ones, the seed, and one case to compare alone.
+//! `compare [subject] [cases [seed [index]]]`: batch, order or replay alone;
+//! random cases per subject on top of the fixed ones, the seed, and one case to
+//! compare alone.
 
 use crosscheck::compare::{self, Plan, Report};
 use std::process::ExitCode;
 
+/// What compares one subject.
+type Subject = (&'static str, fn(&Plan, &mut Report));
+
+/// As far as the features reach.
+const SUBJECTS: &[Subject] = &[
+    ("batch", compare::batch::run),
+    #[cfg(feature = "order")]
+    ("order", compare::order::run),
+    #[cfg(feature = "replay")]
+    ("replay", compare::replay::run),
+];
+
 fn main() -> ExitCode {
-    let arguments: Result<Vec<u64>, _> = std::env::args().skip(1).map(|a| a.parse()).collect();
-    let plan = match arguments.as_deref() {
+    let mut arguments: Vec<String> = std::env::args().skip(1).collect();
+    let mut subjects = SUBJECTS;
+    if let Some(first) = arguments.first() {
+        if let Some(at) = SUBJECTS.iter().position(|(name, _)| name == first) {
+            subjects = &SUBJECTS[at..=at];
+            arguments.remove(0);
+        }
+    }
+    let numbers: Result<Vec<u64>, _> = arguments.iter().map(|number| number.parse()).collect();
+    let plan = match numbers.as_deref() {
         Ok([]) => plan(None, None, None),
         Ok([cases]) => plan(Some(*cases), None, None),
         Ok([cases, seed]) => plan(Some(*cases), Some(*seed), None),
         Ok([cases, seed, index]) => plan(Some(*cases), Some(*seed), Some(*index)),
         _ => {
-            eprintln!("usage: compare [cases [seed [index]]]");
+            let names: Vec<&str> = SUBJECTS.iter().map(|(name, _)| *name).collect();
+            eprintln!(
+                "usage: compare [{}] [cases [seed [index]]]",
+                names.join("|")
+            );
             return ExitCode::from(2);
         }
     };
     let mut report = Report::default();
-    compare::batch::run(&plan, &mut report);
+    for (_, run) in subjects {
+        run(&plan, &mut report);
+    }
     println!("{} passed, {} failed", report.passed, report.failed);
     // A run that compared nothing proves nothing.
     match (report.passed, report.failed) {

@@ -1,39 +1,19 @@
 //! The batch check: library against second implementation, over dwords and over bytes.
 
-use super::{Plan, Report, Tally};
+use super::{print_input, Faults, Plan, Report, Tally};
 use crate::batch::{self, Answer, END, RECORD};
 use crate::ffi;
 use crate::generate::batch::{random_case, sweep, Case};
 use crate::guard::{Cell, Guarded};
 use crate::random::Random;
-use std::fmt::Write;
-
-/// Longer batches are not printed.
-const SHORT: usize = 96;
 
 pub fn run(plan: &Plan, report: &mut Report) {
     let mut dwords = Tally::new("batch check over dwords", 0..=10);
     let mut bytes = Tally::new("batch check over bytes", (0..=10).chain([17]));
-    let fixed = sweep(plan.seed);
-    let total = fixed.len() as u64 + plan.cases;
-    let wanted = match plan.only {
-        Some(index) => index..total.min(index + 1),
-        None => 0..total,
-    };
-    for index in wanted {
-        let mut random = Random::for_case(plan.seed, index);
-        let made;
-        let case = match fixed.get(index as usize) {
-            Some(case) => case,
-            None => {
-                made = random_case(&mut random);
-                &made
-            }
-        };
-        let outcome = compare(case, &mut random, &mut dwords, &mut bytes)
-            .map_err(|difference| describe(plan.seed, index, case, &difference));
-        report.case(outcome);
-    }
+    plan.each(&sweep(plan.seed), random_case, |index, case, random| {
+        let outcome = compare(case, random, &mut dwords, &mut bytes);
+        report.case(outcome.map_err(|found| describe(plan.seed, index, case, &found)));
+    });
     if plan.only.is_none() {
         dwords.print(report);
         bytes.print(report);
@@ -101,38 +81,36 @@ impl<T: Cell> Entry<T> {
     ) -> Result<Answer, String> {
         let by_library = Side::run(self.library, batch, capacity, records);
         let by_second = Side::run(self.second, batch, capacity, records);
-        let mut faults = String::new();
-        let mut fault = |what: &str, detail: &str| {
-            let _ = write!(faults, "\n  {what} {detail}");
-        };
-
+        let mut faults = Faults::default();
         if by_library.answer != by_second.answer {
-            fault("answers", "differ");
+            faults.add("answers", "differ");
         }
-        if let Some(at) = by_library.records.difference(&by_second.records) {
-            fault("records, library against second, at", &at);
-        }
+        faults.difference(
+            "records, library against second, at",
+            by_library.records.difference(&by_second.records),
+        );
         for (side, name) in [(&by_library, "library"), (&by_second, "second")] {
             if let Some(at) = side.batch.difference(batch) {
-                fault(name, &format!("changed the batch at {at}"));
+                faults.add(name, &format!("changed the batch at {at}"));
             }
             // Nothing changes on a refusal, nothing past the records on success.
             let count = side.answer.commands as usize;
             let written = count.saturating_mul(self.record).min(records.lent().len());
             if !side.records.differs_only_before(records, written) {
-                fault(name, "wrote past its records");
+                faults.add(name, "wrote past its records");
             }
         }
-        if faults.is_empty() {
+        if faults.0.is_empty() {
             return Ok(by_library.answer);
         }
         Err(format!(
-            "over {}, {} lent for the batch, {} for records\n  library {:?}\n  second  {:?}{faults}",
+            "over {}, {} lent for the batch, {} for records\n  library {:?}\n  second  {:?}{}",
             self.name,
             batch.lent().len(),
             records.lent().len(),
             by_library.answer,
             by_second.answer,
+            faults.0,
         ))
     }
 }
@@ -164,11 +142,6 @@ fn describe(seed: u64, index: u64, case: &Case, difference: &str) -> String {
         case.tail.len(),
         case.capacity,
     );
-    if case.batch.len() <= SHORT {
-        text.push_str("\n  batch");
-        for word in &case.batch {
-            let _ = write!(text, " {word:x}");
-        }
-    }
+    print_input(&mut text, "batch", &case.batch);
     text
 }

@@ -30,9 +30,9 @@ impl Case {
 
 /// A command by itself; the kind is kept when its header is damaged.
 #[derive(Clone)]
-struct Command {
+pub(super) struct Command {
     kind: usize,
-    words: Vec<u32>,
+    pub(super) words: Vec<u32>,
 }
 
 /// The header of each kind with its shortest length, by kind.
@@ -55,14 +55,14 @@ const ROWS_IN_17_BITS: u32 = 4095;
 
 impl Command {
     /// The kind with zeros in all its fields.
-    fn plain(kind: usize) -> Self {
+    pub(super) fn plain(kind: usize) -> Self {
         let mut words = vec![0; FIXED[kind]];
         words[0] = HEADERS[kind];
         Command { kind, words }
     }
 
     /// Random bits wherever the kind's masks leave them free.
-    fn random(random: &mut Random, kind: usize) -> Self {
+    pub(super) fn random(random: &mut Random, kind: usize) -> Self {
         let mut command = Command::plain(kind);
         for dword in 1..FIXED[kind] {
             command.words[dword] = random.word() & !masks::BY_KIND[kind][dword];
@@ -70,7 +70,7 @@ impl Command {
         command
     }
 
-    fn vfe(random: &mut Random, entries: u32, entry_size: u32, curbe_size: u32) -> Self {
+    pub(super) fn vfe(random: &mut Random, entries: u32, entry_size: u32, curbe_size: u32) -> Self {
         let mut command = Command::random(random, 3);
         command.words[2] = command.words[2] & 0xffff_00ff | entries << 8;
         command.words[4] = entry_size << 16 | curbe_size;
@@ -78,14 +78,14 @@ impl Command {
     }
 
     /// A CURBE load or a descriptor load.
-    fn load(kind: usize, length: u32, address: u32) -> Self {
+    pub(super) fn load(kind: usize, length: u32, address: u32) -> Self {
         let mut command = Command::plain(kind);
         command.words[2] = length;
         command.words[3] = address;
         command
     }
 
-    fn object(random: &mut Random, index: u32, inline: usize) -> Self {
+    pub(super) fn object(random: &mut Random, index: u32, inline: usize) -> Self {
         let mut command = Command::random(random, 7);
         command.words[0] += inline as u32;
         command.words[1] = command.words[1] & !0x3f | index;
@@ -254,11 +254,11 @@ fn any_vfe(random: &mut Random) -> Command {
 }
 
 /// Rows that the hungriest VFE asks for.
-fn rows(commands: &[Command]) -> u32 {
+pub(super) fn rows(commands: &[Command]) -> u32 {
     commands.iter().map(Command::rows).max().unwrap_or(0)
 }
 
-fn flat(commands: &[Command]) -> Vec<u32> {
+pub(super) fn flat(commands: &[Command]) -> Vec<u32> {
     commands
         .iter()
         .flat_map(|c| c.words.iter().copied())

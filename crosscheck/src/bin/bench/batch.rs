@@ -1,23 +1,14 @@
-//! Time per dword of the library and of the second implementation.
-//!
-//! The two take turns on the same buffers and the best of many samples counts,
-//! so that a disturbance hits neither alone. Buffers are not cleared between
-//! calls: each call overwrites every record that it fills.
+//! The batch check: time per dword. Buffers are not cleared between calls: each
+//! call overwrites every record that it fills.
 
+use crate::timing::turns;
 use crosscheck::batch::{self, Answer, CURBE, DESCRIPTOR, END, LIMIT, NOOP, OBJECT, RECORD, VFE};
 use crosscheck::ffi;
 use std::hint::black_box;
-use std::time::{Duration, Instant};
-
-/// Samples per implementation.
-const SAMPLES: usize = 400;
-
-/// A sample repeats the call until it takes about this long.
-const SAMPLE: Duration = Duration::from_micros(200);
 
 const CAPACITY: u32 = 2048;
 
-fn main() {
+pub fn run() {
     println!(
         "{:<34} {:<7} {:>15} {:>15} {:>15} {:>12}",
         "batch", "entry", "library ns/dw", "second ns/dw", "library/second", "speed ratio"
@@ -82,24 +73,17 @@ struct Pair<T> {
 }
 
 impl<T> Pair<T> {
-    fn print(&self, name: &str, entry: &str, dwords: usize, batch: &[T], records: &mut [T]) {
+    fn print(&self, name: &str, entry: &str, dwords: usize, batch: &[T], records: &mut Vec<T>) {
         for check in [self.library, self.second] {
             let answer = check(batch, CAPACITY, records);
             assert_eq!((answer.number, answer.dwords), (0, dwords as u64), "{name}");
         }
-        let calls = calls_per_sample(self.second, batch, records);
-        let mut library = f64::INFINITY;
-        let mut second = f64::INFINITY;
-        for sample in 0..SAMPLES {
-            // Whoever comes first changes from sample to sample.
-            if sample % 2 == 0 {
-                library = library.min(time(self.library, batch, records, calls));
-                second = second.min(time(self.second, batch, records, calls));
-            } else {
-                second = second.min(time(self.second, batch, records, calls));
-                library = library.min(time(self.library, batch, records, calls));
+        let call = |check: Check<T>| {
+            move |records: &mut Vec<T>| {
+                black_box(check(black_box(batch), CAPACITY, black_box(records)));
             }
-        }
+        };
+        let (library, second) = turns(records, call(self.library), call(self.second));
         let per_dword = 1e9 / dwords as f64;
         println!(
             "{name:<34} {entry:<7} {:>15.4} {:>15.4} {:>15.3} {:>12.3}",
@@ -109,20 +93,4 @@ impl<T> Pair<T> {
             second / library,
         );
     }
-}
-
-/// Seconds per call.
-fn time<T>(check: Check<T>, batch: &[T], records: &mut [T], calls: u32) -> f64 {
-    let start = Instant::now();
-    for _ in 0..calls {
-        black_box(check(black_box(batch), CAPACITY, black_box(&mut *records)));
-    }
-    start.elapsed().as_secs_f64() / f64::from(calls)
-}
-
-fn calls_per_sample<T>(check: Check<T>, batch: &[T], records: &mut [T]) -> u32 {
-    let once = (0..20)
-        .map(|_| time(check, batch, records, 1))
-        .fold(f64::INFINITY, f64::min);
-    (SAMPLE.as_secs_f64() / once.max(1e-8)).ceil() as u32
 }

@@ -1,0 +1,107 @@
+-- What acceptance says of a batch. Assumes nothing.
+use mathlib.Core.Path.{_≡_, refl, sym, ap, ap₂, subst, _∙_}
+use mathlib.Core.Bool.{Bool, true, false, cond}
+use mathlib.Core.Logic.{inl, inr}
+use Prim.Native.Nat.{ℕ, zero, suc, _+_, _-_, _*_, _<_, _≤_}
+use native.Mathlib.Omega.{arith}
+use mathlib.Core.List.{List, [], _∷_}
+use lib.ListN.{length, getD, set}
+use lib.Dec.{eqb, ltb}
+use borrow.Author.Tests.{ltb-false}
+use Rattle.command.specs.declared.State.{State}
+use Rattle.command.specs.declared.Verdict.{Verdict}
+use Rattle.command.specs.declared.Verdict.the-variants.{Fault, Passed}
+use Rattle.command.specs.Kinds.{kindOf, totalOf, headOf}
+use Rattle.command.specs.Order.{Command, stateOf, stateAfter}
+use Rattle.command.specs.Refusals.{judgeOf}
+use Rattle.command.proofs.Judged.{fault-number}
+use Rattle.batch.specs.declared.Answer.{Answer}
+use Rattle.batch.specs.Reading.{Stop, ended, stopped, Reading, reading, andThen, commandAt, onward, readingOf}
+use Rattle.batch.specs.Records.{written}
+use Rattle.batch.specs.Unread.{Inline, AfterEnd, Unread}
+use Rattle.batch.specs.Answers.{atStop, decided, refusedAnswer, acceptedAnswer, recordedIn, answerOf, recordsOf}
+use Rattle.batch.proofs.Walk.{walk, reading-walk}
+use Rattle.batch.proofs.Same.{same-reading}
+
+-- how reading stopped, where it was at a refusal: its number is not 0
+abbrev Numbered : Stop → Type 0
+Numbered (ended d) = Unit
+Numbered (stopped m p) = m ≡ 0 → ⊥
+
+numbered-end : (x : Bool) (c : Command) (r : Reading) → Numbered (r .stop) → Numbered (cond x (reading (c ∷ []) (ended (c .place + 1))) (andThen c r) .stop)
+numbered-end true c r h = tt
+numbered-end false c r h = h
+
+numbered-verdict : (v : Verdict) (c : Command) (r : Reading) → ((m s : ℕ) → v ≡ Fault m s → m ≡ 0 → ⊥) → Numbered (r .stop) → Numbered (onward v c r .stop)
+numbered-verdict (Fault m s) c r f h = f m s refl
+numbered-verdict Passed c r f h = numbered-end (eqb (c .kind) 2) c r h
+
+numbered-walk : (l : List ℕ) (n at : ℕ) (st : State) → Numbered (walk l n at st .stop)
+unfolding walk
+numbered-walk [] n at st = λ e. omega arith
+numbered-walk (d ∷ ds) (suc n) at st = numbered-walk ds n (at + 1) st
+numbered-walk (d ∷ ds) zero at st =
+    let k = kindOf d in
+    let c = commandAt k (d ∷ ds) at st in
+    numbered-verdict (judgeOf k (suc (length ds)) (c .head) st) c (walk ds (c .total - 1) (at + 1) (stateAfter k (c .head) st))
+    (fault-number k (suc (length ds)) (c .head) st) (numbered-walk ds (c .total - 1) (at + 1) (stateAfter k (c .head) st))
+
+numbered-reading : (capacity : ℕ) (b : List ℕ) → Numbered (readingOf capacity b .stop)
+numbered-reading capacity b = subst (λ (r : Reading). Numbered (r .stop)) (sym (reading-walk capacity b)) (numbered-walk b 0 0 (stateOf capacity []))
+
+-- an answer with the number 0 is success, and nothing else is
+zero-number : (m p c d : ℕ) → refusedAnswer m p ≡ acceptedAnswer c d → m ≡ 0
+zero-number m p c d e = ap (λ (a : Answer). a .number) e
+
+room-ended : (t : Bool) (room n d c e : ℕ) → ltb room (16 * n) ≡ t → cond t (refusedAnswer 10 d) (acceptedAnswer n d) ≡ acceptedAnswer c e → (n ≡ c) × (d ≡ e) × (16 * n ≤ room)
+room-ended true room n d c e q h = let z = zero-number 10 d c e h in absurd (omega arith)
+room-ended false room n d c e q h = (ap (λ (a : Answer). a .commands) h, ap (λ (a : Answer). a .dwords) h, ltb-false room (16 * n) q)
+
+stop-ended : (room n : ℕ) (s : Stop) (c d : ℕ) → Numbered s → atStop refusedAnswer acceptedAnswer room n s ≡ acceptedAnswer c d → (n ≡ c) × (s ≡ ended d) × (16 * n ≤ room)
+stop-ended room n (stopped m p) c d g h = absurd (g (zero-number m p c d h))
+stop-ended room n (ended e) c d g h = let z = room-ended (ltb room (16 * n)) room n e c d refl h in (z .0, ap ended (z .1), z .2)
+
+length-ended : (t : Bool) (n : ℕ) (a : Answer) (c d : ℕ) → ltb 16384 n ≡ t → cond t (refusedAnswer 1 0) a ≡ acceptedAnswer c d → (n ≤ 16384) × (a ≡ acceptedAnswer c d)
+length-ended true n a c d q h = let z = zero-number 1 0 c d h in absurd (omega arith)
+length-ended false n a c d q h = (ltb-false 16384 n q, h)
+
+module _ (capacity : ℕ) (b r : List ℕ) (c d : ℕ) (h : answerOf capacity b r ≡ acceptedAnswer c d) where
+  limits : (length b ≤ 16384) × (atStop refusedAnswer acceptedAnswer (length r) (length (readingOf capacity b .passed)) (readingOf capacity b .stop) ≡ acceptedAnswer c d)
+  unfolding answerOf decided
+  limits =
+      length-ended (ltb 16384 (length b)) (length b)
+      (atStop refusedAnswer acceptedAnswer (length r) (length (readingOf capacity b .passed)) (readingOf capacity b .stop)) c d refl h
+
+  ends : (length (readingOf capacity b .passed) ≡ c) × (readingOf capacity b .stop ≡ ended d) × (16 * length (readingOf capacity b .passed) ≤ length r)
+  ends = stop-ended (length r) (length (readingOf capacity b .passed)) (readingOf capacity b .stop) c d (numbered-reading capacity b) (limits .1)
+
+  -- an accepted batch passes all its commands, as many as the answer counts
+  pub accepted-commands : length (readingOf capacity b .passed) ≡ c
+  accepted-commands = ends .0
+
+  pub accepted-ends : readingOf capacity b .stop ≡ ended d
+  accepted-ends = ends .1
+
+  pub accepted-room : 16 * length (readingOf capacity b .passed) ≤ length r
+  accepted-room = ends .2
+
+  pub accepted-length : length b ≤ 16384
+  accepted-length = limits .0
+
+  -- LAW: any other dwords after END, the length kept, give the same answer and the same records
+  module _ (b′ : List ℕ) (e : length b ≡ length b′) (same : (i : ℕ) → i < d → getD b i 0 ≡ getD b′ i 0) where
+    before-end : (i : ℕ) → (Unread (readingOf capacity b) i → ⊥) → i < d
+    before-end i u = let z : d ≤ i → ⊥ = λ p. u (inr (subst (λ (s : Stop). AfterEnd s i) (sym accepted-ends) p)) in omega arith
+
+    one-reading : readingOf capacity b ≡ readingOf capacity b′
+    one-reading = same-reading capacity b b′ e (λ i u. same i (before-end i u))
+
+    pub after-end-answer : answerOf capacity b r ≡ answerOf capacity b′ r
+    unfolding answerOf decided
+    after-end-answer =
+        ap₂ (λ (n : ℕ) (x : Reading). cond (ltb 16384 n) (refusedAnswer 1 0) (atStop refusedAnswer acceptedAnswer (length r) (length (x .passed)) (x .stop))) e one-reading
+
+    pub after-end-records : recordsOf capacity b r ≡ recordsOf capacity b′ r
+    unfolding recordsOf recordedIn decided
+    after-end-records =
+        ap₂ (λ (n : ℕ) (x : Reading). cond (ltb 16384 n) r (atStop (λ m p. r) (λ c d. written set (x .passed) 0 r) (length r) (length (x .passed)) (x .stop))) e one-reading

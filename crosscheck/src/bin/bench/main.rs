@@ -1,0 +1,38 @@
+//! Time of the library and of the second implementation on the same inputs.
+//!
+//! `bench [batch|order|replay]`: all subjects that the features switch on, or one.
+
+mod batch;
+#[cfg(feature = "order")]
+mod order;
+#[cfg(feature = "replay")]
+mod replay;
+mod timing;
+
+use std::process::ExitCode;
+
+/// What measures one subject.
+type Subject = (&'static str, fn());
+
+/// As far as the features reach.
+const SUBJECTS: &[Subject] = &[
+    ("batch", batch::run),
+    #[cfg(feature = "order")]
+    ("order", order::run),
+    #[cfg(feature = "replay")]
+    ("replay", replay::run),
+];
+
+fn main() -> ExitCode {
+    let wanted = std::env::args().nth(1);
+    let chosen = |name: &str| wanted.as_deref().is_none_or(|wanted| wanted == name);
+    if !SUBJECTS.iter().any(|(name, _)| chosen(name)) {
+        let names: Vec<&str> = SUBJECTS.iter().map(|(name, _)| *name).collect();
+        eprintln!("usage: bench [{}]", names.join("|"));
+        return ExitCode::from(2);
+    }
+    for (_, run) in SUBJECTS.iter().filter(|(name, _)| chosen(name)) {
+        run();
+    }
+    ExitCode::SUCCESS
+}

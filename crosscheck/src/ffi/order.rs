@@ -1,0 +1,114 @@
+//! The library's order check.
+
+use crate::order::Answer;
+
+#[repr(C)]
+struct MplOrder {
+    number: u64,
+    place: u64,
+    object: u64,
+    delta: u64,
+}
+
+#[repr(C)]
+struct MplInPlay {
+    count: u32,
+    lowest: u32,
+}
+
+extern "C" {
+    fn mpl_check_order(
+        batch: *const u8,
+        batch_len: usize,
+        capacity: u32,
+        run: *const u8,
+        run_len: usize,
+        records: *mut u8,
+        records_len: usize,
+        states: *mut u8,
+        states_len: usize,
+    ) -> MplOrder;
+
+    fn mpl_check_order_dwords(
+        batch: *const u32,
+        batch_len: usize,
+        capacity: u32,
+        run: *const u32,
+        run_len: usize,
+        records: *mut u32,
+        records_len: usize,
+        states: *mut u8,
+        states_len: usize,
+    ) -> MplOrder;
+
+    fn mpl_deltas_in_play(object_dword_2: u32, vfe_dword_5: u32, object_dword_5: u32) -> MplInPlay;
+}
+
+impl From<MplOrder> for Answer {
+    fn from(answer: MplOrder) -> Self {
+        Answer {
+            number: answer.number,
+            place: answer.place,
+            object: answer.object,
+            delta: answer.delta,
+        }
+    }
+}
+
+/// The order check over little-endian bytes.
+pub fn check_order(
+    batch: &[u8],
+    capacity: u32,
+    run: &[u8],
+    records: &mut [u8],
+    states: &mut [u8],
+) -> Answer {
+    // SAFETY: the slices are live for the call and do not overlap; a slice's
+    // pointer is never null and is aligned, also at length 0.
+    unsafe {
+        mpl_check_order(
+            batch.as_ptr(),
+            batch.len(),
+            capacity,
+            run.as_ptr(),
+            run.len(),
+            records.as_mut_ptr(),
+            records.len(),
+            states.as_mut_ptr(),
+            states.len(),
+        )
+    }
+    .into()
+}
+
+/// The order check over dwords.
+pub fn check_order_dwords(
+    batch: &[u32],
+    capacity: u32,
+    run: &[u32],
+    records: &mut [u32],
+    states: &mut [u8],
+) -> Answer {
+    // SAFETY: as above; the lengths are in dwords, for states in bytes.
+    unsafe {
+        mpl_check_order_dwords(
+            batch.as_ptr(),
+            batch.len(),
+            capacity,
+            run.as_ptr(),
+            run.len(),
+            records.as_mut_ptr(),
+            records.len(),
+            states.as_mut_ptr(),
+            states.len(),
+        )
+    }
+    .into()
+}
+
+/// How many deltas are in play, and the lowest.
+pub fn deltas_in_play(object_dword_2: u32, vfe_dword_5: u32, object_dword_5: u32) -> (u32, u32) {
+    // SAFETY: numbers alone.
+    let in_play = unsafe { mpl_deltas_in_play(object_dword_2, vfe_dword_5, object_dword_5) };
+    (in_play.count, in_play.lowest)
+}

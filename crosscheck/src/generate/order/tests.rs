@@ -1,0 +1,93 @@
+use super::*;
+use crate::order::{check, check_bytes, Answer};
+
+fn checked(case: &Case) -> (Answer, Vec<u8>) {
+    let mut records = vec![0; case.batch.records];
+    let mut states = vec![9; case.states];
+    let answer = check(
+        &case.batch.batch,
+        case.batch.capacity,
+        &case.run,
+        &mut records,
+        &mut states,
+    );
+    (answer, states)
+}
+
+/// The second implementation against the rules in the paper's own words.
+#[test]
+fn scenes_are_judged_alike() {
+    let mut reached = [0; 26];
+    for index in 0..20_000 {
+        let mut random = Random::for_case(3, index);
+        let scene = any_scene(&mut random);
+        let run = any_run(&mut random, &scene);
+        let expected = scene.judge(&run);
+        let case = Case::new(&scene, run);
+        assert_eq!(checked(&case), expected, "case {index}");
+        reached[expected.0.number as usize] += 1;
+    }
+    for number in [0, 21, 22, 23, 24, 25] {
+        assert!(reached[number] > 500, "{number}: {}", reached[number]);
+    }
+}
+
+#[test]
+fn complete_runs_pass() {
+    for index in 0..500 {
+        let mut random = Random::for_case(4, index);
+        let scene = any_scene(&mut random);
+        let habit = Habit {
+            starts: random.between(1, 8),
+            any: random.one_in(2),
+        };
+        let mut follower = Follower::new(&scene);
+        follower.follow(&mut random, habit, usize::MAX);
+        let run = follower.run;
+        assert_eq!(run.len(), 2 * scene.objects());
+        let (answer, states) = checked(&Case::new(&scene, run.clone()));
+        assert_eq!(answer, Answer::new(0, run.len()));
+        assert!(states.iter().all(|&state| state == 2));
+    }
+}
+
+#[test]
+fn pictures_pass() {
+    for layout in [Layout::Raster, Layout::Waves] {
+        for stalling in [false, true] {
+            for (width, height) in [(1, 1), (1, 9), (9, 1), PICTURE] {
+                let (scene, run) = picture(width, height, layout, stalling);
+                assert_eq!(scene.objects(), (width * height) as usize);
+                let (answer, _) = checked(&Case::new(&scene, run.clone()));
+                assert_eq!(answer, Answer::new(0, 2 * scene.objects()));
+                assert_eq!(answer, scene.judge(&run).0);
+            }
+        }
+    }
+}
+
+#[test]
+fn sweep_reaches_every_number() {
+    let mut dwords = [0; 26];
+    let mut bytes = [0; 26];
+    let mut odd_run = 0;
+    for case in sweep(1) {
+        dwords[checked(&case).0.number as usize] += 1;
+        let mut records = vec![0; case.batch.record_bytes()];
+        let mut states = vec![9; case.states];
+        let answer = check_bytes(
+            &case.batch.bytes(),
+            case.batch.capacity,
+            &case.run_bytes(),
+            &mut records,
+            &mut states,
+        );
+        bytes[answer.number as usize] += 1;
+        odd_run += usize::from(answer.number == 17 && case.batch.tail.is_empty());
+    }
+    for number in (0..=10).chain(20..=25) {
+        assert!(dwords[number] > 0 && bytes[number] > 0, "{number}");
+    }
+    assert!(odd_run > 0 && bytes[17] > odd_run);
+    assert_eq!(dwords[17], 0);
+}

@@ -1,0 +1,62 @@
+use super::*;
+use crate::replay::replay;
+
+fn replayed(case: &Case) -> (u32, Vec<u8>) {
+    let mut registers = vec![0; case.registers];
+    let mut counts = vec![0; case.counts];
+    let mut outcomes = vec![99; case.outcomes];
+    let answer = replay(&case.recording, &mut registers, &mut counts, &mut outcomes);
+    (answer.number, outcomes)
+}
+
+#[test]
+fn sweep_reaches_every_number_and_outcome() {
+    let mut numbers = [0; 17];
+    let mut met = [0; 100];
+    for case in sweep(1) {
+        let (number, outcomes) = replayed(&case);
+        numbers[number as usize] += 1;
+        for outcome in outcomes {
+            met[usize::from(outcome)] += 1;
+        }
+    }
+    for number in [0].into_iter().chain(11..=16) {
+        assert!(numbers[number] > 0, "{number}");
+    }
+    for outcome in [0].into_iter().chain(31..=39) {
+        assert!(met[outcome] > 0, "{outcome}");
+    }
+}
+
+/// Most random recordings pass, and no outcome is rare in them.
+#[test]
+fn random_cases_are_mostly_sound() {
+    let mut passed = 0;
+    let mut met = [0; 100];
+    for index in 0..4000 {
+        let (number, outcomes) = replayed(&random_case(&mut Random::for_case(6, index)));
+        passed += usize::from(number == 0);
+        if number == 0 {
+            for outcome in outcomes {
+                met[usize::from(outcome)] += 1;
+            }
+        }
+    }
+    assert!(passed > 3000, "{passed}");
+    for outcome in [0].into_iter().chain(31..=39) {
+        assert!(met[outcome] > 300, "{outcome}: {}", met[outcome]);
+    }
+}
+
+#[test]
+fn forwards_are_accepted() {
+    for case in [forwards(true), forwards(false)] {
+        let (number, outcomes) = replayed(&case);
+        assert_eq!((number, outcomes.len()), (0, MOST));
+        assert!(outcomes.iter().all(|&outcome| outcome == 0));
+    }
+    let (number, outcomes) = replayed(&mixed());
+    assert_eq!((number, outcomes.len()), (0, MOST));
+    let accepted = outcomes.iter().filter(|&&outcome| outcome == 0).count();
+    assert!((MOST / 2..MOST * 4 / 5).contains(&accepted), "{accepted}");
+}
