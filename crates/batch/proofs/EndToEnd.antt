@@ -70,8 +70,8 @@ laid-walk b (x ∷ l) zero at st d e h =
     let c = commandAt k (x ∷ l) at st in
     subst (λ (a : ℕ). EndToEnd b a (walk (x ∷ l) 0 at st .passed) d) (sym (add-zero at))
     (laid-verdict b at c (walk l (totalOf k x - 1) (at + 1) s) d refl (total-pos k x)
-      (λ q. laid-walk b l (totalOf k x - 1) (at + 1) s d (sym (drop-drop 1 at b) ∙ ap (drop 1) e) q)
-      (judgeOf k (suc (length l)) g st) (stands b at x l st e) h)
+    (λ q. laid-walk b l (totalOf k x - 1) (at + 1) s d (sym (drop-drop 1 at b) ∙ ap (drop 1) e) q)
+    (judgeOf k (suc (length l)) g st) (stands b at x l st e) h)
 
 -- LAW: an accepted batch is, up to its END, the commands that the answer counts (`accepted-commands`), laid end to end
 pub accepted-laid : (capacity : ℕ) (b r : List ℕ) (c d : ℕ) → answerOf capacity b r ≡ acceptedAnswer c d → EndToEnd b 0 (readingOf capacity b .passed) d

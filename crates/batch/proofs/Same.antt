@@ -64,8 +64,8 @@ unread-from (d ∷ ds) zero at st i u =
     let p = total-pos k d in
     inline-from c i
     (from-verdict c (rest d ds at st)
-      (λ j w. let z = unread-from ds (totalOf k d - 1) (at + 1) (stateAfter k (headOf k (d ∷ ds)) st) j w in omega arith)
-      p (judgeOf k (suc (length ds)) (headOf k (d ∷ ds)) st) i u)
+    (λ j w. let z = unread-from ds (totalOf k d - 1) (at + 1) (stateAfter k (headOf k (d ∷ ds)) st) j w in omega arith)
+    p (judgeOf k (suc (length ds)) (headOf k (d ∷ ds)) st) i u)
 
 -- a command's own dwords are read
 module _ (d : ℕ) (ds : List ℕ) (at : ℕ) (st : State) where
@@ -180,5 +180,5 @@ same-reading capacity b b′ e h =
     let st = stateOf capacity [] in
     reading-walk capacity b
     ∙ same-walk b b′ 0 0 st e
-      (λ i p u. h i (λ w. u (subst (λ (r : Reading). Unread r (0 + i)) (reading-walk capacity b) (subst (Unread (readingOf capacity b)) (sym (zero-add i)) w))))
+    (λ i p u. h i (λ w. u (subst (λ (r : Reading). Unread r (0 + i)) (reading-walk capacity b) (subst (Unread (readingOf capacity b)) (sym (zero-add i)) w))))
     ∙ sym (reading-walk capacity b′)

@@ -41,9 +41,9 @@ module _ (i : ℕ) (ws : List ℕ) where
   stamp-at r (suc k) f p q =
       by-eq f k
       (λ e. subst (λ (g : ℕ). getD (stamp set r i ws (suc k)) (slot i g) 0 ≡ getD ws g 0) (sym e)
-        (getD-set-same (stamp set r i ws k) (slot i k) (getD ws k 0) 0 (let l = stamp-length r k in omega arith)))
+      (getD-set-same (stamp set r i ws k) (slot i k) (getD ws k 0) 0 (let l = stamp-length r k in omega arith)))
       (λ n. getD-set-other (stamp set r i ws k) (slot i k) (slot i f) (getD ws k 0) 0 (λ e. n (omega arith))
-        ∙ stamp-at r k f (let z : f ≢ k = n in omega arith) q)
+      ∙ stamp-at r k f (let z : f ≢ k = n in omega arith) q)
 
 -- every other word is as it was
 written-other : (cs : List Command) (i : ℕ) (r : List ℕ) (k : ℕ) → ((m f : ℕ) → m < length cs → f < 16 → k ≢ slot (i + m) f) → getD (written set cs i r) k 0 ≡ getD r k 0

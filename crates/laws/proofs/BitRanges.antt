@@ -23,7 +23,6 @@ pub taken-low : (h d : ℕ) → field (bits h 0) d ≡ bitAnd d (2 ^ (h - 0 + 1)
 unfolding field
 taken-low h d = let e : d / 2 ^ 0 ≡ d = omega arith in ap (λ (x : ℕ). x % 2 ^ (h - 0 + 1)) e ∙ sym (and-mask d (h - 0 + 1))
 
-
 some : (x y p : ℕ) → 0 < p → not (eqb x 0) || not (eqb y 0) ≡ not (eqb (x * p + y) 0)
 some zero y p h = let e : y ≡ 0 * p + y = omega arith in ap (λ (n : ℕ). not (eqb n 0)) e
 some (suc x) y p h =

@@ -1,0 +1,68 @@
+/*
+ * The checker of media command batches, for C. Link libmpl.a (`rt staticlib mpl`).
+ *
+ * What a caller owes: each pointer is valid for its length, in elements; it may be null only where that length is 0; dwords are
+ * aligned; no two buffers overlap, and nobody else writes them during the call. In return no function here stops, allocates,
+ * keeps a pointer, or reads or writes outside what it was lent, whatever the batch holds.
+ */
+#ifndef MPL_H
+#define MPL_H
+
+#include <stddef.h>
+#include <stdint.h>
+
+#ifdef __cplusplus
+extern "C" {
+#endif
+
+/* Why a batch is turned away. A place counts dwords from the start of the batch. */
+enum {
+    MPL_ACCEPTED = 0,
+    MPL_TOO_LONG = 1,           /* over 16,384 dwords; place 0 */
+    MPL_NO_END = 2,             /* slice used up before END; place: its length */
+    MPL_UNKNOWN_COMMAND = 3,    /* header's type and opcodes not in the table; place: the command */
+    MPL_LENGTH_FIELD = 4,       /* length field not allowed; place: the command */
+    MPL_RUNS_PAST = 5,          /* command runs past the slice; place: the command */
+    MPL_MUST_BE_ZERO = 6,       /* a must-be-zero bit is set; place: the first such dword */
+    MPL_LOAD_FIELDS = 7,        /* load length or address not a multiple of 32, or descriptor length outside 32 to 2,048; place: the dword */
+    MPL_ORDER = 8,              /* commands out of order, or an index not below the count last loaded; place: the command */
+    MPL_TOO_LARGE = 9,          /* a VFE exceeds the capacity, or a CURBE load the CURBE size in force; place: the command */
+    MPL_RECORD_ROOM = 10,       /* all commands pass, but the record buffer has fewer than 16 words per command; place: dwords read */
+    MPL_PART_OF_A_DWORD = 17    /* byte entry only, before all others: not a multiple of 4 bytes; place: whole dwords */
+};
+
+/* Kinds of command, in word 0 of a record. */
+enum {
+    MPL_NO_OP = 0,
+    MPL_FLUSH = 1,
+    MPL_END = 2,
+    MPL_VFE_STATE = 3,
+    MPL_CURBE_LOAD = 4,
+    MPL_DESCRIPTOR_LOAD = 5,
+    MPL_STATE_FLUSH = 6,
+    MPL_OBJECT = 7
+};
+
+/* Words of a record: kind, place, total, then the kind's fields, then zeros. */
+enum { MPL_RECORD_WORDS = 16 };
+
+/* number 0: accepted, with place 0; else a refusal, with commands and dwords 0. */
+struct mpl_batch {
+    uint64_t number, place, commands, dwords;
+};
+
+/*
+ * May the chip read this batch? capacity is the lent URB capacity in 256-bit rows.
+ * Accepted: `commands` records of 16 words stand in `records`, in the batch's order; `dwords` were read, END included; every other
+ * word of `records` is as it was. Refused, with 1 to 10: `records` is as it was, all of it. The batch is never written.
+ */
+struct mpl_batch mpl_check_batch_dwords(const uint32_t *batch, size_t batch_len, uint32_t capacity, uint32_t *records, size_t records_len);
+
+/* The same over little-endian bytes: records of 64 bytes, their words little-endian; also 17. A tail of `records` under 64 bytes is no fault. */
+struct mpl_batch mpl_check_batch(const uint8_t *batch, size_t batch_len, uint32_t capacity, uint8_t *records, size_t records_len);
+
+#ifdef __cplusplus
+}
+#endif
+
+#endif
