@@ -1,8 +1,9 @@
 // The 16 words of a record.
 ghost use mathlib.Core.Path.{_≡_};
+ghost use mathlib.Core.List.{[], _∷_};
 ghost use Prim.Native.Nat.{_-_};
 ghost use Rattle.command.specs.Order.{commandOf};
-ghost use Rattle.command.specs.Record.{recordOf};
+ghost use Rattle.command.specs.Record.{recordOf, padded};
 use crate::State;
 
 fn inline_count(total: u32) -> u32
@@ -61,6 +62,13 @@ fn object(h: [u32; 8], at: u32, total: u32, st: State) -> [u32; 16]
     ]
 }
 
+// A record with at most two fields.
+fn short(k: u32, at: u32, total: u32, first: u32, second: u32) -> [u32; 16]
+    ensures { λ r. ⌜ r ≡ k ∷ at ∷ total ∷ padded 13 (first ∷ second ∷ []) ⌝ }
+{
+    [k, at, total, first, second, 0, 0, 0, 0, 0, 0, 0, 0, 0, 0, 0]
+}
+
 // The record of the command of kind k at a place, with what the commands before it have set.
 pub fn words(k: u32, h: [u32; 8], at: u32, total: u32, st: State) -> [u32; 16]
     ensures { λ r. ⌜ r ≡ recordOf (commandOf k at total h st) ⌝ }
@@ -72,47 +80,13 @@ pub fn words(k: u32, h: [u32; 8], at: u32, total: u32, st: State) -> [u32; 16]
         return vfe(h, at, total, st);
     }
     if k == 4 {
-        return [
-            4,
-            at,
-            total,
-            h[2] & 0x1_ffff,
-            h[3],
-            0,
-            0,
-            0,
-            0,
-            0,
-            0,
-            0,
-            0,
-            0,
-            0,
-            0,
-        ];
+        return short(k, at, total, h[2] & 0x1_ffff, h[3]);
     }
     if k == 5 {
-        return [
-            5,
-            at,
-            total,
-            (h[2] & 0x1_ffff) / 32,
-            h[3],
-            0,
-            0,
-            0,
-            0,
-            0,
-            0,
-            0,
-            0,
-            0,
-            0,
-            0,
-        ];
+        return short(k, at, total, (h[2] & 0x1_ffff) / 32, h[3]);
     }
     if k == 6 {
-        return [6, at, total, h[1], 0, 0, 0, 0, 0, 0, 0, 0, 0, 0, 0, 0];
+        return short(k, at, total, h[1], 0);
     }
-    [k, at, total, 0, 0, 0, 0, 0, 0, 0, 0, 0, 0, 0, 0, 0]
+    short(k, at, total, 0, 0)
 }
