@@ -1,7 +1,7 @@
 // The batch check: a pass that answers and writes nothing, then a pass that writes the records.
 ghost use mathlib.Core.Path.{_≡_};
 ghost use Prim.Native.Nat.{ℕ, _+_, _-_, _*_, _/_, _^_, _<_, _≤_};
-ghost use lib.ListN.{length, getD, drop};
+ghost use lib.ListN.{length, getD, set, drop};
 ghost use Rattle.words.specs.Dwords.{dwordsIn, buffer, putIn};
 ghost use Rattle.command.specs.Kinds.{kindOf};
 ghost use Rattle.batch.specs.Reading.{readingOf, Whole};
@@ -138,7 +138,7 @@ pub fn slot_of(i: usize, f: usize) -> usize
 // Writes the words of record i.
 fn put(rd: &mut [u32], rb: &mut [u8], i: usize, w: [u32; 16])
     requires { ⌜ (16 * i + 16 ≤ length (dwordsIn (now rd) (now rb))) × (i < 2 ^ 32) ⌝ }
-    ensures { λ _. ⌜ buffer (now (rd .exit)) (now (rb .exit)) ≡ stamp putIn (buffer (now (rd .entry)) (now (rb .entry))) i w 16 ⌝ }
+    ensures { λ _. ⌜ (buffer (now (rd .exit)) (now (rb .exit)) ≡ stamp putIn (buffer (now (rd .entry)) (now (rb .entry))) i w 16) × (dwordsIn (now (rd .exit)) (now (rb .exit)) ≡ stamp set (dwordsIn (now (rd .entry)) (now (rb .entry))) i w 16) ⌝ }
 {
     let mut f: usize = 0;
     while f < 16 {
@@ -159,7 +159,7 @@ fn record_as(
     rb: &mut [u8],
 ) -> Onward
     requires { ⌜ (at < length (dwordsIn (now dw) (now by))) × (at < 16384) × (d ≡ getD (dwordsIn (now dw) (now by)) at 0) × (k ≡ kindOf d) × (st .commands ≤ at) × (st .objects ≤ at) × Passes (turnOf (drop at (dwordsIn (now dw) (now by))) st) × (16 * st .commands + 16 ≤ length (dwordsIn (now rd) (now rb))) ⌝ }
-    ensures { λ r. ⌜ (r ≡ onwardOf (drop at (dwordsIn (now (dw .entry)) (now (by .entry)))) st) × (buffer (now (rd .exit)) (now (rb .exit)) ≡ stamp putIn (buffer (now (rd .entry)) (now (rb .entry))) (st .commands) (recordOf (here (drop at (dwordsIn (now (dw .entry)) (now (by .entry)))) at st)) 16) ⌝ }
+    ensures { λ r. ⌜ (r ≡ onwardOf (drop at (dwordsIn (now (dw .entry)) (now (by .entry)))) st) × (buffer (now (rd .exit)) (now (rb .exit)) ≡ stamp putIn (buffer (now (rd .entry)) (now (rb .entry))) (st .commands) (recordOf (here (drop at (dwordsIn (now (dw .entry)) (now (by .entry)))) at st)) 16) × (dwordsIn (now (rd .exit)) (now (rb .exit)) ≡ stamp set (dwordsIn (now (rd .entry)) (now (rb .entry))) (st .commands) (recordOf (here (drop at (dwordsIn (now (dw .entry)) (now (by .entry)))) at st)) 16) ⌝ }
 {
     let t = total(k, d);
     let h = own_dwords(dw, by, at, k, d);
@@ -176,7 +176,7 @@ fn record_as(
 // Writes the record of the command at a place, with code of its own for OBJECTs and for no-ops.
 fn record_at(dw: &[u32], by: &[u8], at: usize, st: State, rd: &mut [u32], rb: &mut [u8]) -> Onward
     requires { ⌜ (at < length (dwordsIn (now dw) (now by))) × (at < 16384) × (st .commands ≤ at) × (st .objects ≤ at) × Passes (turnOf (drop at (dwordsIn (now dw) (now by))) st) × (16 * st .commands + 16 ≤ length (dwordsIn (now rd) (now rb))) ⌝ }
-    ensures { λ r. ⌜ (r ≡ onwardOf (drop at (dwordsIn (now (dw .entry)) (now (by .entry)))) st) × (buffer (now (rd .exit)) (now (rb .exit)) ≡ stamp putIn (buffer (now (rd .entry)) (now (rb .entry))) (st .commands) (recordOf (here (drop at (dwordsIn (now (dw .entry)) (now (by .entry)))) at st)) 16) ⌝ }
+    ensures { λ r. ⌜ (r ≡ onwardOf (drop at (dwordsIn (now (dw .entry)) (now (by .entry)))) st) × (buffer (now (rd .exit)) (now (rb .exit)) ≡ stamp putIn (buffer (now (rd .entry)) (now (rb .entry))) (st .commands) (recordOf (here (drop at (dwordsIn (now (dw .entry)) (now (by .entry)))) at st)) 16) × (dwordsIn (now (rd .exit)) (now (rb .exit)) ≡ stamp set (dwordsIn (now (rd .entry)) (now (rb .entry))) (st .commands) (recordOf (here (drop at (dwordsIn (now (dw .entry)) (now (by .entry)))) at st)) 16) ⌝ }
 {
     let d = word(dw, by, at);
     let k = kind(d);
@@ -192,7 +192,7 @@ fn record_at(dw: &[u32], by: &[u8], at: usize, st: State, rd: &mut [u32], rb: &m
 // The second pass: the record of each command of a batch that passed.
 fn fill(dw: &[u32], by: &[u8], capacity: u32, rd: &mut [u32], rb: &mut [u8])
     requires { ⌜ (length (dwordsIn (now dw) (now by)) ≤ 16384) × Whole (readingOf capacity (dwordsIn (now dw) (now by)) .stop) × (16 * length (readingOf capacity (dwordsIn (now dw) (now by)) .passed) ≤ length (dwordsIn (now rd) (now rb))) ⌝ }
-    ensures { λ _. ⌜ buffer (now (rd .exit)) (now (rb .exit)) ≡ recorded putIn capacity (dwordsIn (now (dw .entry)) (now (by .entry))) (buffer (now (rd .entry)) (now (rb .entry))) ⌝ }
+    ensures { λ _. ⌜ (buffer (now (rd .exit)) (now (rb .exit)) ≡ recorded putIn capacity (dwordsIn (now (dw .entry)) (now (by .entry))) (buffer (now (rd .entry)) (now (rb .entry)))) × (dwordsIn (now (rd .exit)) (now (rb .exit)) ≡ recorded set capacity (dwordsIn (now (dw .entry)) (now (by .entry))) (dwordsIn (now (rd .entry)) (now (rb .entry)))) ⌝ }
 {
     let len = held(dw, by);
     let mut at: usize = 0;

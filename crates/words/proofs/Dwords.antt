@@ -123,3 +123,17 @@ dwords-put (a ∷ b ∷ c ∷ []) k v p h = absurd (omega arith)
 dwords-put (a ∷ b ∷ []) k v p h = absurd (omega arith)
 dwords-put (a ∷ []) k v p h = absurd (omega arith)
 dwords-put [] k v p h = absurd (omega arith)
+
+-- the dwords of a buffer after a store
+pub in-set : (dw by : List ℕ) (k v : ℕ) → length by ≡ 0 → dwordsIn (set dw k v) by ≡ set (dwordsIn dw by) k v
+unfolding dwordsIn
+in-set dw [] k v e = refl
+in-set dw (b ∷ by) k v e = absurd (omega arith)
+
+pub in-put : (dw by by′ : List ℕ) (k v : ℕ) → (length by ≡ 0 → ⊥) → k < length (dwordsIn dw by) → v < 2 ^ 32 → by′ ≡ putLe by k v → dwordsIn dw by′ ≡ set (dwordsIn dw by) k v
+in-put dw by by′ k v n h p e =
+    let m : 4 * k + 3 < length by = index-bytes dw by k n h in
+    let l : length by′ ≡ length by = ap length e ∙ length-put by k v in
+    in-bytes dw by′ (λ z. n (omega arith)) ∙ ap dwordsOf e ∙ dwords-put by k v (omega arith) p ∙ ap (λ (x : List ℕ). set x k v) (sym (in-bytes dw by n))
+
+pub ruleset views = (in-set, in-put)

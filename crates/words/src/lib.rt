@@ -1,7 +1,7 @@
 // Dwords as the checks read and write them: lent as dwords, or as little-endian bytes.
 ghost use mathlib.Core.Path.{_≡_};
 ghost use Prim.Native.Nat.{_+_, _*_, _<_, _≤_, _^_};
-ghost use lib.ListN.{length, getD};
+ghost use lib.ListN.{length, getD, set};
 ghost use Rattle.words.specs.Dwords.{leAt, dwordsOf, dwordsIn, putLe, buffer, putIn};
 
 fn wide(x: u8) -> u32
@@ -53,7 +53,7 @@ fn store(by: &mut [u8], k: usize, v: u32)
 // Stores dword k of a lent buffer.
 pub fn store_in(dw: &mut [u32], by: &mut [u8], k: usize, v: u32)
     requires { ⌜ k < length (dwordsIn (now dw) (now by)) ⌝ }
-    ensures { λ _. ⌜ buffer (now (dw .exit)) (now (by .exit)) ≡ putIn (buffer (now (dw .entry)) (now (by .entry))) k v ⌝ }
+    ensures { λ _. ⌜ (buffer (now (dw .exit)) (now (by .exit)) ≡ putIn (buffer (now (dw .entry)) (now (by .entry))) k v) × (dwordsIn (now (dw .exit)) (now (by .exit)) ≡ set (dwordsIn (now (dw .entry)) (now (by .entry))) k v) ⌝ }
 {
     if by.len() == 0 {
         dw[k] = v;

@@ -1,7 +1,7 @@
 use Prim.Native.Nat.{ℕ, _+_, _≤_, _-_}
 use mathlib.Core.Path.{_≡_, refl}
 use borrow.Author.Needs.{needs}
-use lib.ListN.{length, drop}
+use lib.ListN.{length, set, drop}
 use Rattle.words.specs.Dwords.{dwordsIn, buffer, putIn}
 use Rattle.batch.specs.Reading.{Whole, readingOf}
 use Rattle.batch.specs.Records.{written}
@@ -27,6 +27,7 @@ Inv-loop dw by capacity rd₀ rb₀ len at₀ st₀ rd rb at st =
     × Whole (walk (drop at (dwordsIn dw by)) 0 at st .stop)
     × (st .commands + length (walk (drop at (dwordsIn dw by)) 0 at st .passed) ≡ length (readingOf capacity (dwordsIn dw by) .passed))
     × (written putIn (walk (drop at (dwordsIn dw by)) 0 at st .passed) (st .commands) (buffer rd rb) ≡ recorded putIn capacity (dwordsIn dw by) (buffer rd₀ rb₀))
+    × (written set (walk (drop at (dwordsIn dw by)) 0 at st .passed) (st .commands) (dwordsIn rd rb) ≡ recorded set capacity (dwordsIn dw by) (dwordsIn rd₀ rb₀))
 
 abbrev μ-loop : tie.MeasureT-loop
 μ-loop dw by capacity rd₀ rb₀ len at₀ st₀ rd rb at st = length (dwordsIn dw by) - at
@@ -38,7 +39,7 @@ start-requires : tie.Need-start-requires Inv-loop μ-loop
 start-requires c κs = search needs
 
 loop-holds : tie.Need-loop-holds Inv-loop μ-loop
-loop-holds c = (search needs, search start-laws, search start-laws, refl, refl, search fill-laws, search fill-laws, search record-laws)
+loop-holds c = (search needs, search start-laws, search start-laws, refl, refl, search fill-laws, search fill-laws, search record-laws, search record-laws)
 
 record-at-requires : tie.Need-record-at-requires Inv-loop μ-loop
 record-at-requires c κs = (search needs, search needs, search needs, search needs, search fill-laws, search fill-room)
@@ -53,7 +54,7 @@ same-length-2 : tie.Need-same-length-2 Inv-loop μ-loop
 same-length-2 c = search needs
 
 returns : tie.Need-returns Inv-loop μ-loop
-returns c = search record-laws
+returns c = (search record-laws, search record-laws)
 
 enum-known-t : tie.Need-enum-known-t Inv-loop μ-loop
 enum-known-t c = search needs
@@ -68,7 +69,7 @@ loop-less : tie.Need-loop-less Inv-loop μ-loop
 loop-less c = search fill-laws
 
 loop-again : tie.Need-loop-again Inv-loop μ-loop
-loop-again c = (search fill-laws, fill-commands _ _ (c .before .before .before .before .before .before .before .before .before .before .before .before .before .held .ensures) _ _ (c .before .before .before .before .before .before .before .before .before .before .loop-test .taken) (c .before .before .before .before .before .before .before .before .before .before .before .loop .inv .5) _ (c .before .before .before .before .before .before .before .record-at .ensures .0) _ _ (c .before .t .given .1) (c .before .before .before .before .before .before .before .before .before .before .before .loop .inv .1), fill-objects _ _ (c .before .before .before .before .before .before .before .before .before .before .before .before .before .held .ensures) _ _ (c .before .before .before .before .before .before .before .before .before .before .loop-test .taken) (c .before .before .before .before .before .before .before .before .before .before .before .loop .inv .5) _ (c .before .before .before .before .before .before .before .record-at .ensures .0) _ _ (c .before .t .given .1) (c .before .before .before .before .before .before .before .before .before .before .before .loop .inv .2), search needs, search needs, search fill-laws, search fill-laws, search record-laws)
+loop-again c = (search fill-laws, fill-commands _ _ (c .before .before .before .before .before .before .before .before .before .before .before .before .before .held .ensures) _ _ (c .before .before .before .before .before .before .before .before .before .before .loop-test .taken) (c .before .before .before .before .before .before .before .before .before .before .before .loop .inv .5) _ (c .before .before .before .before .before .before .before .record-at .ensures .0) _ _ (c .before .t .given .1) (c .before .before .before .before .before .before .before .before .before .before .before .loop .inv .1), fill-objects _ _ (c .before .before .before .before .before .before .before .before .before .before .before .before .before .held .ensures) _ _ (c .before .before .before .before .before .before .before .before .before .before .loop-test .taken) (c .before .before .before .before .before .before .before .before .before .before .before .loop .inv .5) _ (c .before .before .before .before .before .before .before .record-at .ensures .0) _ _ (c .before .t .given .1) (c .before .before .before .before .before .before .before .before .before .before .before .loop .inv .2), search needs, search needs, search fill-laws, search fill-laws, search record-laws, search record-laws)
 
 same-length-3 : tie.Need-same-length-3 Inv-loop μ-loop
 same-length-3 c = search needs
@@ -77,7 +78,7 @@ same-length-4 : tie.Need-same-length-4 Inv-loop μ-loop
 same-length-4 c = search needs
 
 returns-2 : tie.Need-returns-2 Inv-loop μ-loop
-returns-2 c = search record-laws
+returns-2 c = (search record-laws, search record-laws)
 
 pub fill-spec : {M : Type 1} → statement M
 fill-spec =

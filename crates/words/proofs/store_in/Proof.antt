@@ -1,5 +1,5 @@
 use native.Mathlib.Omega.{arith}
-use Rattle.words.proofs.Dwords.{source, index-dwords, index-bytes}
+use Rattle.words.proofs.Dwords.{source, views, index-dwords, index-bytes}
 use borrow.Author.Needs.{needs}
 use Rattle.words.proofs.store_in.Statement.{statement}
 use Rattle.words.proofs.store_in.Tie as tie
@@ -21,7 +21,7 @@ same-length c = search needs
 
 -- src/lib.rt:60:9
 returns : tie.Need-returns
-returns c = search source
+returns c = (search source, search (views, arith))
 
 -- src/lib.rt:62:5
 store-requires : tie.Need-store-requires
@@ -33,7 +33,7 @@ same-length-2 c = search needs
 
 -- src/lib.rt:54:1
 returns-2 : tie.Need-returns-2
-returns-2 c = search source
+returns-2 c = (search source, search (views, arith))
 
 pub store-in-spec : {M : Type 1} → statement M
 store-in-spec =
