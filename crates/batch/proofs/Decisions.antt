@@ -8,7 +8,7 @@ use lib.ListN.{length, getD, set}
 use lib.Dec.{ltb}
 use borrow.Author.Tests.{lt-ltb, le-ltb, ltb-false, eq-eqb, ne-eqb}
 use Rattle.words.specs.Dwords.{dwordsIn, dwordsOf, putLe, Buffer, buffer, stored, putIn}
-use Rattle.words.proofs.Dwords.{in-none, length-dwords}
+use Rattle.words.proofs.Dwords.{in-none, in-dwords, length-dwords}
 use Rattle.command.specs.Order.{Command}
 use Rattle.command.specs.Record.{recordOf}
 use Rattle.batch.specs.declared.Answer.{Answer}
@@ -39,10 +39,9 @@ module _ {A : Type 0} (refused accepted : ℕ → ℕ → A) where
       let s = readingOf capacity b .stop in
       made-cond (ltb 16384 (length b)) (Stopped 1 0) (atStop Stopped Ended room n s) ∙ ap (cond (ltb 16384 (length b)) (refused 1 0)) (made-stop room n s)
 
-  -- R is the room as the code counted it
-  module _ (capacity room R : ℕ) (b : List ℕ) (w : Scanned) (er : R ≡ room) (ew : w ≡ decided Stopped Ended capacity R b) where
+  module _ (capacity room : ℕ) (b : List ℕ) (w : Scanned) (ew : w ≡ decided Stopped Ended capacity room b) where
     made-of : (v : Scanned) → w ≡ v → made v ≡ decided refused accepted capacity room b
-    made-of v e = ap made (sym e ∙ ew) ∙ made-decided capacity R b ∙ ap (λ (n : ℕ). decided refused accepted capacity n b) er
+    made-of v e = ap made (sym e ∙ ew) ∙ made-decided capacity room b
 
     pub by-refusal : (m p : ℕ) (r : A) → w ≡ Stopped m p → r ≡ refused m p → r ≡ decided refused accepted capacity room b
     by-refusal m p r e q = q ∙ made-of (Stopped m p) e
@@ -116,20 +115,20 @@ module _ (capacity room : ℕ) (b : List ℕ) (w : Scanned) (c d : ℕ) (ew : w 
   pub fits-whole : Whole (readingOf capacity b .stop)
   fits-whole = ends-whole .0
 
-  pub fits-records : (R : ℕ) → room ≡ R → 16 * length (readingOf capacity b .passed) ≤ R
-  fits-records R q = let z = ends-whole .1 in omega arith
+  pub fits-records : 16 * length (readingOf capacity b .passed) ≤ room
+  fits-records = ends-whole .1
 
-pub ruleset fits = (fits-limit, fits-whole, fits-records)
+pub ruleset fits = (fits-limit, fits-whole)
 
 -- the record buffer of a core that writes to either
-module _ (capacity room R : ℕ) (b : List ℕ) (w : Scanned) (er : R ≡ room) (ew : w ≡ decided Stopped Ended capacity R b) {B : Type 0} (put : B → ℕ → ℕ → B) (r : B) where
+module _ (capacity room : ℕ) (b : List ℕ) (w : Scanned) (ew : w ≡ decided Stopped Ended capacity room b) {B : Type 0} (put : B → ℕ → ℕ → B) (r : B) where
   pub kept-refused : (m p : ℕ) → w ≡ Stopped m p → r ≡ recordedIn put capacity room b r
   unfolding recordedIn
-  kept-refused m p e = by-refusal (λ m p. r) (λ c d. recorded put capacity b r) capacity room R b w er ew m p r e refl
+  kept-refused m p e = by-refusal (λ m p. r) (λ c d. recorded put capacity b r) capacity room b w ew m p r e refl
 
   pub kept-recorded : (c d : ℕ) (r′ : B) → w ≡ Ended c d → r′ ≡ recorded put capacity b r → r′ ≡ recordedIn put capacity room b r
   unfolding recordedIn
-  kept-recorded c d r′ e q = by-success (λ m p. r) (λ c d. recorded put capacity b r) capacity room R b w er ew c d r′ e q
+  kept-recorded c d r′ e q = by-success (λ m p. r) (λ c d. recorded put capacity b r) capacity room b w ew c d r′ e q
 
 pub ruleset answers = (by-refusal, by-success)
 
@@ -147,63 +146,73 @@ module _ {B C : Type 0} (put : B → ℕ → ℕ → B) (put′ : C → ℕ → 
   written-map [] i r = refl
   written-map (c ∷ cs) i r = written-map cs (i + 1) (stamp put r i (recordOf c) 16) ∙ ap (written put′ cs (i + 1)) (stamp-map r i (recordOf c) 16)
 
-  recorded-cond : (t : Bool) (x y : B) → f (cond t x y) ≡ cond t (f x) (f y)
-  recorded-cond true x y = refl
-  recorded-cond false x y = refl
-
-  stop-map : (room n : ℕ) (s : Stop) (x y : B) → f (atStop (λ m p. x) (λ c d. y) room n s) ≡ atStop (λ m p. f x) (λ c d. f y) room n s
-  stop-map room n (stopped m p) x y = refl
-  stop-map room n (ended d) x y = recorded-cond (ltb room (16 * n)) x y
-
-  pub recorded-map : (capacity room : ℕ) (b : List ℕ) (r : B) → f (recordedIn put capacity room b r) ≡ recordedIn put′ capacity room b (f r)
-  unfolding recordedIn decided
-  recorded-map capacity room b r =
-      let n = length (readingOf capacity b .passed) in
-      let s = readingOf capacity b .stop in
-      let y = written put (readingOf capacity b .passed) 0 r in
-      recorded-cond (ltb 16384 (length b)) r (atStop (λ m p. r) (λ c d. y) room n s)
-      ∙ ap (cond (ltb 16384 (length b)) (f r)) (stop-map room n s r y ∙ ap (λ (z : C). atStop (λ m p. f r) (λ c d. z) room n s) (written-map (readingOf capacity b .passed) 0 r))
-
--- a core lent dwords, or bytes
-as-dwords : (r : List ℕ) (k v : ℕ) → buffer (set r k v) [] ≡ putIn (buffer r []) k v
-unfolding stored
-as-dwords r k v = refl
-
+-- bytes, as a buffer that is bytes
 as-bytes : (r : List ℕ) (k v : ℕ) → buffer [] (putLe r k v) ≡ putIn (buffer [] r) k v
 unfolding stored
 as-bytes [] k v = refl
 as-bytes (x ∷ r) k v = refl
 
-module _ (capacity : ℕ) (b r r′ no : List ℕ) (a : Answer) where
-  pub dwords-answer : a ≡ decided refusedAnswer acceptedAnswer capacity (length (dwordsIn r [])) (dwordsIn b []) → a ≡ answerOf capacity b r
+-- the dword entry: w is what `decide` answered
+module _ (capacity : ℕ) (b r : List ℕ) (w : Scanned) (ew : w ≡ decided Stopped Ended capacity (length r) (dwordsIn b [])) where
+  pub dwords-refused : (m p : ℕ) (a : Answer) → w ≡ Stopped m p → a ≡ refusedAnswer m p → a ≡ answerOf capacity b r
   unfolding answerOf dwordsIn
-  dwords-answer e = e
+  dwords-refused m p a e q = by-refusal refusedAnswer acceptedAnswer capacity (length r) b w ew m p a e q
 
-  pub dwords-records : buffer r′ no ≡ recordedIn putIn capacity (length (dwordsIn r [])) (dwordsIn b []) (buffer r []) → r′ ≡ recordsOf capacity b r
+  pub dwords-kept : (m p : ℕ) → w ≡ Stopped m p → r ≡ recordsOf capacity b r
   unfolding recordsOf dwordsIn
-  dwords-records e =
-      let z = e ∙ sym (recorded-map set putIn (λ (x : List ℕ). buffer x []) as-dwords capacity (length r) b r) in
-      ap (λ (x : Buffer). x .dwords) z
+  dwords-kept m p e = kept-refused capacity (length r) b w ew set r m p e
 
-  module _ (q : length b % 4 ≡ 0) where
-    pub bytes-answer : a ≡ decided refusedAnswer acceptedAnswer capacity (length (dwordsIn [] r)) (dwordsIn [] b) → a ≡ bytesAnswerOf capacity b r
+  module _ (c d : ℕ) (e : w ≡ Ended c d) where
+    pub dwords-accepted : (a : Answer) → a ≡ acceptedAnswer c d → a ≡ answerOf capacity b r
+    unfolding answerOf dwordsIn
+    dwords-accepted a q = by-success refusedAnswer acceptedAnswer capacity (length r) b w ew c d a e q
+
+    pub dwords-room : 16 * length (readingOf capacity (dwordsIn b []) .passed) ≤ length (dwordsIn r [])
+    unfolding dwordsIn
+    dwords-room = fits-records capacity (length r) b w c d ew e
+
+    pub dwords-filled : (r′ none : List ℕ) → length none ≡ 0 → dwordsIn r′ none ≡ recorded set capacity (dwordsIn b []) (dwordsIn r []) → r′ ≡ recordsOf capacity b r
+    unfolding recordsOf dwordsIn
+    dwords-filled r′ none z q = kept-recorded capacity (length r) b w ew set r c d r′ e (sym (in-dwords r′ none z) ∙ q)
+
+pub ruleset dwords-laws = (dwords-refused, dwords-kept, dwords-accepted, dwords-filled)
+
+-- the byte entry
+pub bytes-room : (capacity : ℕ) (b r : List ℕ) (w : Scanned) (c d : ℕ) → w ≡ decided Stopped Ended capacity (length r / 4) (dwordsIn [] b) → w ≡ Ended c d →
+    16 * length (readingOf capacity (dwordsIn [] b) .passed) ≤ length (dwordsIn [] r)
+bytes-room capacity b r w c d ew e =
+    let z = fits-records capacity (length r / 4) (dwordsIn [] b) w c d ew e in
+    let n : length (dwordsIn [] r) ≡ length r / 4 = ap length (in-none r) ∙ length-dwords r in omega arith
+
+module _ (capacity : ℕ) (b r : List ℕ) (w : Scanned) (q : length b % 4 ≡ 0) (ew : w ≡ decided Stopped Ended capacity (length r / 4) (dwordsIn [] b)) where
+  decides : w ≡ decided Stopped Ended capacity (length r / 4) (dwordsOf b)
+  decides = ew ∙ ap (decided Stopped Ended capacity (length r / 4)) (in-none b)
+
+  pub bytes-refused : (m p : ℕ) (a : Answer) → w ≡ Stopped m p → a ≡ refusedAnswer m p → a ≡ bytesAnswerOf capacity b r
+  unfolding bytesAnswerOf
+  bytes-refused m p a e t = simp (eq-eqb (length b % 4) 0 q) (by-refusal refusedAnswer acceptedAnswer capacity (length r / 4) (dwordsOf b) w decides m p a e t)
+
+  pub bytes-kept : (m p : ℕ) → w ≡ Stopped m p → r ≡ bytesRecordsOf capacity b r
+  unfolding bytesRecordsOf
+  bytes-kept m p e = simp (eq-eqb (length b % 4) 0 q) (kept-refused capacity (length r / 4) (dwordsOf b) w decides putLe r m p e)
+
+  module _ (c d : ℕ) (e : w ≡ Ended c d) where
+    pub bytes-accepted : (a : Answer) → a ≡ acceptedAnswer c d → a ≡ bytesAnswerOf capacity b r
     unfolding bytesAnswerOf
-    bytes-answer e =
-        simp (eq-eqb (length b % 4) 0 q)
-        (e ∙ ap₂ (λ (n : ℕ) (l : List ℕ). decided refusedAnswer acceptedAnswer capacity n l) (ap length (in-none r) ∙ length-dwords r) (in-none b))
+    bytes-accepted a t = simp (eq-eqb (length b % 4) 0 q) (by-success refusedAnswer acceptedAnswer capacity (length r / 4) (dwordsOf b) w decides c d a e t)
 
-    pub bytes-records : buffer no r′ ≡ recordedIn putIn capacity (length (dwordsIn [] r)) (dwordsIn [] b) (buffer [] r) → r′ ≡ bytesRecordsOf capacity b r
+    pub bytes-filled : (r′ none : List ℕ) → buffer none r′ ≡ recorded putIn capacity (dwordsIn [] b) (buffer [] r) → r′ ≡ bytesRecordsOf capacity b r
     unfolding bytesRecordsOf
-    bytes-records e =
-        let y = ap₂ (λ (n : ℕ) (l : List ℕ). recordedIn putIn capacity n l (buffer [] r)) (ap length (in-none r) ∙ length-dwords r) (in-none b) in
-        let z = e ∙ y ∙ sym (recorded-map putLe putIn (λ (x : List ℕ). buffer [] x) as-bytes capacity (length r / 4) (dwordsOf b) r) in
-        simp (eq-eqb (length b % 4) 0 q) (ap (λ (x : Buffer). x .bytes) z)
+    bytes-filled r′ none t =
+        let cs = readingOf capacity (dwordsOf b) .passed in
+        let z = t ∙ ap (λ (l : List ℕ). recorded putIn capacity l (buffer [] r)) (in-none b) ∙ sym (written-map putLe putIn (λ (x : List ℕ). buffer [] x) as-bytes cs 0 r) in
+        simp (eq-eqb (length b % 4) 0 q) (kept-recorded capacity (length r / 4) (dwordsOf b) w decides putLe r c d r′ e (ap (λ (x : Buffer). x .bytes) z))
 
-  module _ (q : length b % 4 ≡ 0 → ⊥) where
-    pub odd-answer : a ≡ refusedAnswer 17 (length b / 4) → a ≡ bytesAnswerOf capacity b r
-    unfolding bytesAnswerOf
-    odd-answer e = simp (ne-eqb (length b % 4) 0 q) e
+module _ (capacity : ℕ) (b r : List ℕ) (q : length b % 4 ≡ 0 → ⊥) where
+  pub odd-answer : (a : Answer) → a ≡ refusedAnswer 17 (length b / 4) → a ≡ bytesAnswerOf capacity b r
+  unfolding bytesAnswerOf
+  odd-answer a e = simp (ne-eqb (length b % 4) 0 q) e
 
-    pub odd-records : r ≡ bytesRecordsOf capacity b r
-    unfolding bytesRecordsOf
-    odd-records = simp (ne-eqb (length b % 4) 0 q)
+  pub odd-records : r ≡ bytesRecordsOf capacity b r
+  unfolding bytesRecordsOf
+  odd-records = simp (ne-eqb (length b % 4) 0 q)

@@ -6,7 +6,7 @@ ghost use Rattle.words.specs.Dwords.{dwordsIn, buffer, putIn};
 ghost use Rattle.command.specs.Kinds.{kindOf};
 ghost use Rattle.batch.specs.Reading.{readingOf, Whole};
 ghost use Rattle.batch.specs.Records.{slot, stamp, written};
-ghost use Rattle.batch.specs.Answers.{scanOf, decided, refusedAnswer, acceptedAnswer, recorded, recordedIn, answerOf, recordsOf, bytesAnswerOf, bytesRecordsOf};
+ghost use Rattle.batch.specs.Answers.{scanOf, decided, refusedAnswer, acceptedAnswer, recorded, answerOf, recordsOf, bytesAnswerOf, bytesRecordsOf};
 ghost use Rattle.batch.specs.declared.Scanned.the-variants.{Stopped, Ended};
 ghost use Rattle.batch.specs.Turns.{turnOf, Passes, onwardOf, here};
 ghost use Rattle.command.specs.Record.{recordOf};
@@ -234,19 +234,6 @@ fn decide(dw: &[u32], by: &[u8], capacity: u32, room: usize) -> Scanned
     }
 }
 
-// The check over one source and one record buffer, each lent as dwords or as bytes.
-fn check_in(dw: &[u32], by: &[u8], capacity: u32, rd: &mut [u32], rb: &mut [u8]) -> Answer
-    ensures { λ r. ⌜ (r ≡ decided refusedAnswer acceptedAnswer capacity (length (dwordsIn (now (rd .entry)) (now (rb .entry)))) (dwordsIn (now (dw .entry)) (now (by .entry)))) × (buffer (now (rd .exit)) (now (rb .exit)) ≡ recordedIn putIn capacity (length (dwordsIn (now (rd .entry)) (now (rb .entry)))) (dwordsIn (now (dw .entry)) (now (by .entry))) (buffer (now (rd .entry)) (now (rb .entry)))) ⌝ }
-{
-    match decide(dw, by, capacity, held(rd, rb)) {
-        Scanned::Stopped { number, place } => refused(number, place),
-        Scanned::Ended { commands, dwords } => {
-            fill(dw, by, capacity, rd, rb);
-            accepted(commands, dwords)
-        }
-    }
-}
-
 fn refused(number: u32, place: usize) -> Answer
     ensures { λ r. ⌜ r ≡ refusedAnswer number place ⌝ }
 {
@@ -275,7 +262,13 @@ pub fn check(batch: &[u32], capacity: u32, records: &mut [u32]) -> Answer
 {
     let none: [u8; 0] = [];
     let mut no: [u8; 0] = [];
-    check_in(batch, &none, capacity, records, &mut no)
+    match decide(batch, &none, capacity, records.len()) {
+        Scanned::Stopped { number, place } => refused(number, place),
+        Scanned::Ended { commands, dwords } => {
+            fill(batch, &none, capacity, records, &mut no);
+            accepted(commands, dwords)
+        }
+    }
 }
 
 // The same over little-endian bytes.
@@ -287,5 +280,11 @@ pub fn check_bytes(batch: &[u8], capacity: u32, records: &mut [u8]) -> Answer
     }
     let none: [u32; 0] = [];
     let mut no: [u32; 0] = [];
-    check_in(&none, batch, capacity, &mut no, records)
+    match decide(&none, batch, capacity, records.len() / 4) {
+        Scanned::Stopped { number, place } => refused(number, place),
+        Scanned::Ended { commands, dwords } => {
+            fill(&none, batch, capacity, &mut no, records);
+            accepted(commands, dwords)
+        }
+    }
 }

@@ -1,13 +1,15 @@
 -- A command's own dwords. Assumes nothing.
-use mathlib.Core.Path.{_≡_, refl, ap, subst, _∙_}
+use mathlib.Core.Path.{_≡_, refl, sym, ap, subst, _∙_}
 use mathlib.Core.Bool.{Bool, true, false, cond}
-use Prim.Native.Nat.{ℕ, _+_, _≤_, _<_}
+use Prim.Native.Nat.{ℕ, _+_, _/_, _%_, _≤_, _<_}
 use native.Mathlib.Omega.{arith}
 use lib.ListN.{getD}
 use lib.Dec.{eqb, ltb}
-use borrow.Author.Tests.{ltb-true}
+use borrow.Author.Tests.{ltb-true, ne-eqb}
+use lib.Bits.{bitAnd, and-mask}
+use Rattle.laws.proofs.BitRanges.{taken}
 use mathlib.Core.List.{List}
-use Rattle.command.specs.Kinds.{headOf, ownDword, ownDwords}
+use Rattle.command.specs.Kinds.{kindOf, headOf, ownDword, ownDwords}
 
 -- a descriptor load has as many dwords as a CURBE load
 pub five-as-four : (l : List ℕ) → headOf 4 l ≡ headOf 5 l
@@ -52,3 +54,10 @@ own-object = refl
 pub own-end : ownDwords 2 ≡ 1
 unfolding ownDwords
 own-end = refl
+
+-- type and opcodes tell an OBJECT from every other kind, the whole dwords of kinds 0 to 2 too
+pub object-kind : (d : ℕ) → bitAnd (d / 65536) 65535 ≡ 0x7100 → 7 ≡ kindOf d
+unfolding kindOf
+object-kind d e =
+    let f : d / 65536 % 65536 ≡ 0x7100 = sym (and-mask (d / 65536) 16) ∙ e in
+    simp (taken, e, ne-eqb d 0x0000_0000 (λ q. omega arith), ne-eqb d 0x0200_0000 (λ q. omega arith), ne-eqb d 0x0500_0000 (λ q. omega arith))

@@ -9,6 +9,11 @@ use words::word;
 pub fn kind(d: u32) -> u32
     ensures { λ r. ⌜ r ≡ kindOf d ⌝ }
 {
+    // the OBJECT first: most of a batch
+    let opcodes = (d >> 16) & 0xffff;
+    if opcodes == 0x7100 {
+        return 7;
+    }
     if d == 0 {
         return 0;
     }
@@ -18,7 +23,6 @@ pub fn kind(d: u32) -> u32
     if d == 0x0500_0000 {
         return 2;
     }
-    let opcodes = (d >> 16) & 0xffff;
     if opcodes == 0x7000 {
         return 3;
     }
@@ -30,9 +34,6 @@ pub fn kind(d: u32) -> u32
     }
     if opcodes == 0x7004 {
         return 6;
-    }
-    if opcodes == 0x7100 {
-        return 7;
     }
     255
 }

@@ -1,32 +1,63 @@
-use Rattle.batch.proofs.Decisions.{dwords-answer, dwords-records}
+use Rattle.batch.proofs.Decisions.{fits, dwords-room, dwords-laws}
 use borrow.Author.Needs.{needs}
 use Rattle.batch.proofs.check.Statement.{statement}
 use Rattle.batch.proofs.check.Tie as tie
 use Rattle.batch.proofs.check.Reads as reads
 use Rattle.batch.proofs.check.Lts as lts
-use Rattle.batch.proofs.check_in.Reads as check-in-reads
+use Rattle.batch.proofs.accepted.Reads as accepted-reads
+use Rattle.batch.proofs.decide.Reads as decide-reads
+use Rattle.batch.proofs.fill.Reads as fill-reads
+use Rattle.batch.proofs.refused.Reads as refused-reads
 
-slice-aggregate-check-in : tie.Need-slice-aggregate-check-in
-slice-aggregate-check-in c = search needs
+slice-aggregate-decide : tie.Need-slice-aggregate-decide
+slice-aggregate-decide c = search needs
 
-slice-aggregate-check-in-2 : tie.Need-slice-aggregate-check-in-2
-slice-aggregate-check-in-2 c = search needs
+decide-requires : tie.Need-decide-requires
+decide-requires c κs = search needs
 
-check-in-requires : tie.Need-check-in-requires
-check-in-requires c κs = search needs
+enum-known-number : tie.Need-enum-known-number
+enum-known-number c = search needs
+
+refused-requires : tie.Need-refused-requires
+refused-requires c κs = search needs
+
+enum-known-commands : tie.Need-enum-known-commands
+enum-known-commands c = search needs
+
+slice-aggregate-fill : tie.Need-slice-aggregate-fill
+slice-aggregate-fill c = search needs
+
+slice-aggregate-fill-2 : tie.Need-slice-aggregate-fill-2
+slice-aggregate-fill-2 c = search needs
+
+fill-requires : tie.Need-fill-requires
+fill-requires c κs = (search fits, search fits, search dwords-room)
+
+accepted-requires : tie.Need-accepted-requires
+accepted-requires c κs = search needs
+
+returns : tie.Need-returns
+returns c = (search dwords-laws, search dwords-laws)
 
 same-length : tie.Need-same-length
 same-length c = search needs
 
-returns : tie.Need-returns
-returns c = (search dwords-answer, search dwords-records)
+returns-2 : tie.Need-returns-2
+returns-2 c = (search dwords-laws, search dwords-laws)
 
 pub check-spec : {M : Type 1} → statement M
 check-spec =
     tie.close
     (tie.spec
-    slice-aggregate-check-in
-    slice-aggregate-check-in-2
-    check-in-requires
+    slice-aggregate-decide
+    decide-requires
+    enum-known-number
+    refused-requires
+    enum-known-commands
+    slice-aggregate-fill
+    slice-aggregate-fill-2
+    fill-requires
+    accepted-requires
+    returns
     same-length
-    returns)
+    returns-2)

@@ -1,10 +1,12 @@
-use Rattle.batch.proofs.Decisions.{bytes-answer, bytes-records, odd-answer, odd-records}
+use Rattle.batch.proofs.Decisions.{fits, bytes-room, bytes-refused, bytes-kept, bytes-accepted, bytes-filled, odd-answer, odd-records}
 use borrow.Author.Needs.{needs}
 use Rattle.batch.proofs.check_bytes.Statement.{statement}
 use Rattle.batch.proofs.check_bytes.Tie as tie
 use Rattle.batch.proofs.check_bytes.Reads as reads
 use Rattle.batch.proofs.check_bytes.Lts as lts
-use Rattle.batch.proofs.check_in.Reads as check-in-reads
+use Rattle.batch.proofs.accepted.Reads as accepted-reads
+use Rattle.batch.proofs.decide.Reads as decide-reads
+use Rattle.batch.proofs.fill.Reads as fill-reads
 use Rattle.batch.proofs.refused.Reads as refused-reads
 
 refused-requires : tie.Need-refused-requires
@@ -13,20 +15,49 @@ refused-requires c κs = search needs
 returns : tie.Need-returns
 returns c = (search odd-answer, search odd-records)
 
-slice-aggregate-check-in : tie.Need-slice-aggregate-check-in
-slice-aggregate-check-in c = search needs
+slice-aggregate-decide : tie.Need-slice-aggregate-decide
+slice-aggregate-decide c = search needs
 
-slice-aggregate-check-in-2 : tie.Need-slice-aggregate-check-in-2
-slice-aggregate-check-in-2 c = search needs
+decide-requires : tie.Need-decide-requires
+decide-requires c κs = search needs
 
-check-in-requires : tie.Need-check-in-requires
-check-in-requires c κs = search needs
+enum-known-number : tie.Need-enum-known-number
+enum-known-number c = search needs
+
+refused-requires-2 : tie.Need-refused-requires-2
+refused-requires-2 c κs = search needs
+
+enum-known-commands : tie.Need-enum-known-commands
+enum-known-commands c = search needs
+
+slice-aggregate-fill : tie.Need-slice-aggregate-fill
+slice-aggregate-fill c = search needs
+
+slice-aggregate-fill-2 : tie.Need-slice-aggregate-fill-2
+slice-aggregate-fill-2 c = search needs
+
+fill-requires : tie.Need-fill-requires
+fill-requires c κs = (search fits, search fits, bytes-room _ _ _ _ _ _ (c .before .before .before .before .before .before .decide .ensures) (c .before .before .before .before .commands .given .1))
+
+accepted-requires : tie.Need-accepted-requires
+accepted-requires c κs = search needs
+
+returns-2 : tie.Need-returns-2
+returns-2 c =
+    let q = c .before .before .before .before .before .before .if1 .left in
+    let w = c .before .before .before .before .decide .ensures in
+    let e = c .before .before .number .given .1 in
+    (bytes-refused _ _ _ _ q w _ _ _ e (c .refused2 .ensures), bytes-kept _ _ _ _ q w _ _ e)
 
 same-length : tie.Need-same-length
 same-length c = search needs
 
-returns-2 : tie.Need-returns-2
-returns-2 c = (search bytes-answer, search bytes-records)
+returns-3 : tie.Need-returns-3
+returns-3 c =
+    let q = c .before .before .before .before .before .before .before .before .before .before .before .before .before .if1 .left in
+    let w = c .before .before .before .before .before .before .before .before .before .before .before .decide .ensures in
+    let e = c .before .before .before .before .before .before .before .before .before .commands .given .1 in
+    (bytes-accepted _ _ _ _ q w _ _ e _ (c .accepted .ensures), bytes-filled _ _ _ _ q w _ _ e _ _ (c .before .before .before .before .fill .ensures .0))
 
 pub check-bytes-spec : {M : Type 1} → statement M
 check-bytes-spec =
@@ -34,8 +65,15 @@ check-bytes-spec =
     (tie.spec
     refused-requires
     returns
-    slice-aggregate-check-in
-    slice-aggregate-check-in-2
-    check-in-requires
+    slice-aggregate-decide
+    decide-requires
+    enum-known-number
+    refused-requires-2
+    enum-known-commands
+    slice-aggregate-fill
+    slice-aggregate-fill-2
+    fill-requires
+    accepted-requires
+    returns-2
     same-length
-    returns-2)
+    returns-3)

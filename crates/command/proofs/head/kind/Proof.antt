@@ -1,53 +1,44 @@
 use Rattle.laws.proofs.BitRanges.{taken}
 use Rattle.command.specs.Kinds.{kindOf}
 use Rattle.command.proofs.Tests.{tests}
+use Rattle.command.proofs.Heads.{object-kind}
 use native.Mathlib.Omega.{arith}
 use Rattle.command.proofs.head.kind.Statement.{statement}
 use Rattle.command.proofs.head.kind.Tie as tie
 use Rattle.command.proofs.head.kind.Reads as reads
 use Rattle.command.proofs.head.kind.Lts as lts
 
--- src/head.rt:13:9
 returns : tie.Need-returns
-unfolding kindOf
-returns c = rw taken (search (tests, arith))
+returns c = object-kind _ (c .if1 .taken)
 
--- src/head.rt:16:9
 returns-2 : tie.Need-returns-2
 unfolding kindOf
 returns-2 c = rw taken (search (tests, arith))
 
--- src/head.rt:19:9
 returns-3 : tie.Need-returns-3
 unfolding kindOf
 returns-3 c = rw taken (search (tests, arith))
 
--- src/head.rt:23:9
 returns-4 : tie.Need-returns-4
 unfolding kindOf
 returns-4 c = rw taken (search (tests, arith))
 
--- src/head.rt:26:9
 returns-5 : tie.Need-returns-5
 unfolding kindOf
 returns-5 c = rw taken (search (tests, arith))
 
--- src/head.rt:29:9
 returns-6 : tie.Need-returns-6
 unfolding kindOf
 returns-6 c = rw taken (search (tests, arith))
 
--- src/head.rt:32:9
 returns-7 : tie.Need-returns-7
 unfolding kindOf
 returns-7 c = rw taken (search (tests, arith))
 
--- src/head.rt:35:9
 returns-8 : tie.Need-returns-8
 unfolding kindOf
 returns-8 c = rw taken (search (tests, arith))
 
--- src/head.rt:9:1
 returns-9 : tie.Need-returns-9
 unfolding kindOf
 returns-9 c = rw taken (search (tests, arith))
