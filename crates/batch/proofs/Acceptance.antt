@@ -2,12 +2,14 @@
 use mathlib.Core.Path.{_≡_, refl, sym, ap, ap₂, subst, _∙_}
 use mathlib.Core.Bool.{Bool, true, false, cond}
 use mathlib.Core.Logic.{inl, inr}
-use Prim.Native.Nat.{ℕ, zero, suc, _+_, _-_, _*_, _<_, _≤_}
+use Prim.Native.Nat.{ℕ, zero, suc, _+_, _-_, _*_, _/_, _%_, _<_, _≤_}
 use native.Mathlib.Omega.{arith}
 use mathlib.Core.List.{List, [], _∷_}
 use lib.ListN.{length, getD, set}
 use lib.Dec.{eqb, ltb}
-use borrow.Author.Tests.{ltb-false}
+use borrow.Author.Tests.{ltb-false, eqb-true}
+use Rattle.words.specs.Dwords.{dwordsOf}
+use Rattle.words.proofs.Dwords.{length-dwords}
 use Rattle.command.specs.declared.State.{State}
 use Rattle.command.specs.declared.Verdict.{Verdict}
 use Rattle.command.specs.declared.Verdict.the-variants.{Fault, Passed}
@@ -19,7 +21,7 @@ use Rattle.batch.specs.declared.Answer.{Answer}
 use Rattle.batch.specs.Reading.{Stop, ended, stopped, Reading, reading, andThen, commandAt, onward, readingOf}
 use Rattle.batch.specs.Records.{written}
 use Rattle.batch.specs.Unread.{Inline, AfterEnd, Unread}
-use Rattle.batch.specs.Answers.{atStop, decided, refusedAnswer, acceptedAnswer, recordedIn, answerOf, recordsOf}
+use Rattle.batch.specs.Answers.{atStop, decided, refusedAnswer, acceptedAnswer, recordedIn, answerOf, recordsOf, bytesAnswerOf}
 use Rattle.batch.proofs.Walk.{walk, reading-walk}
 use Rattle.batch.proofs.Same.{same-reading}
 
@@ -105,3 +107,21 @@ module _ (capacity : ℕ) (b r : List ℕ) (c d : ℕ) (h : answerOf capacity b 
     unfolding recordsOf recordedIn decided
     after-end-records =
         ap₂ (λ (n : ℕ) (x : Reading). cond (ltb 16384 n) r (atStop (λ m p. r) (λ c d. written set (x .passed) 0 r) (length r) (length (x .passed)) (x .stop))) e one-reading
+
+-- The byte entry answers as the dword entry does on the whole dwords, where there are no bytes over.
+even-answer : (t : Bool) (a : Answer) (p c d : ℕ) → cond t a (refusedAnswer 17 p) ≡ acceptedAnswer c d → (t ≡ true) × (a ≡ acceptedAnswer c d)
+even-answer true a p c d h = (refl, h)
+even-answer false a p c d h = let z = zero-number 17 p c d h in absurd (omega arith)
+
+module _ (capacity : ℕ) (b r : List ℕ) (c d : ℕ) (h : bytesAnswerOf capacity b r ≡ acceptedAnswer c d) where
+  evens : (eqb (length b % 4) 0 ≡ true) × (decided refusedAnswer acceptedAnswer capacity (length r / 4) (dwordsOf b) ≡ acceptedAnswer c d)
+  unfolding bytesAnswerOf
+  evens = even-answer (eqb (length b % 4) 0) (decided refusedAnswer acceptedAnswer capacity (length r / 4) (dwordsOf b)) (length b / 4) c d h
+
+  pub bytes-even : length b % 4 ≡ 0
+  bytes-even = eqb-true (length b % 4) 0 (evens .0)
+
+  -- LAW: so what acceptance says of dwords it says of the whole dwords of the bytes
+  pub bytes-accepted-as : answerOf capacity (dwordsOf b) (dwordsOf r) ≡ acceptedAnswer c d
+  unfolding answerOf
+  bytes-accepted-as = ap (λ (n : ℕ). decided refusedAnswer acceptedAnswer capacity n (dwordsOf b)) (length-dwords r) ∙ evens .1

@@ -15,7 +15,7 @@ use Rattle.batch.specs.declared.Answer.{Answer}
 use Rattle.batch.specs.declared.Scanned.{Scanned}
 use Rattle.batch.specs.declared.Scanned.the-variants.{Stopped, Ended}
 use Rattle.batch.specs.Reading.{Stop, ended, stopped, Whole, readingOf}
-use Rattle.batch.specs.Records.{slot, stamp, written}
+use Rattle.batch.specs.Records.{slot, putWords, written}
 use Rattle.batch.specs.Answers.{atStop, decided, refusedAnswer, acceptedAnswer, recorded, recordedIn, answerOf, recordsOf, bytesAnswerOf, bytesRecordsOf, scanned, scanOf}
 
 -- what is made of a decision, from the decision
@@ -136,15 +136,15 @@ pub ruleset kept = (kept-refused, kept-recorded)
 
 -- two buffers that agree word by word get the same records
 module _ {B C : Type 0} (put : B → ℕ → ℕ → B) (put′ : C → ℕ → ℕ → C) (f : B → C) (h : (r : B) (k v : ℕ) → f (put r k v) ≡ put′ (f r) k v) where
-  stamp-map : (r : B) (i : ℕ) (ws : List ℕ) (n : ℕ) → f (stamp put r i ws n) ≡ stamp put′ (f r) i ws n
-  unfolding stamp
-  stamp-map r i ws zero = refl
-  stamp-map r i ws (suc n) = h (stamp put r i ws n) (slot i n) (getD ws n 0) ∙ ap (λ (x : C). put′ x (slot i n) (getD ws n 0)) (stamp-map r i ws n)
+  words-map : (r : B) (i : ℕ) (ws : List ℕ) (n : ℕ) → f (putWords put r i ws n) ≡ putWords put′ (f r) i ws n
+  unfolding putWords
+  words-map r i ws zero = refl
+  words-map r i ws (suc n) = h (putWords put r i ws n) (slot i n) (getD ws n 0) ∙ ap (λ (x : C). put′ x (slot i n) (getD ws n 0)) (words-map r i ws n)
 
   pub written-map : (cs : List Command) (i : ℕ) (r : B) → f (written put cs i r) ≡ written put′ cs i (f r)
   unfolding written
   written-map [] i r = refl
-  written-map (c ∷ cs) i r = written-map cs (i + 1) (stamp put r i (recordOf c) 16) ∙ ap (written put′ cs (i + 1)) (stamp-map r i (recordOf c) 16)
+  written-map (c ∷ cs) i r = written-map cs (i + 1) (putWords put r i (recordOf c) 16) ∙ ap (written put′ cs (i + 1)) (words-map r i (recordOf c) 16)
 
 -- bytes, as a buffer that is bytes
 as-bytes : (r : List ℕ) (k v : ℕ) → buffer [] (putLe r k v) ≡ putIn (buffer [] r) k v

@@ -12,10 +12,10 @@ use borrow.Author.Tests.{eqb-true, eqb-false}
 use Rattle.command.specs.declared.State.{State}
 use Rattle.command.specs.declared.Verdict.{Verdict}
 use Rattle.command.specs.declared.Verdict.the-variants.{Fault, Passed}
-use Rattle.command.specs.Kinds.{kindOf, totalOf, headOf}
+use Rattle.command.specs.Kinds.{kindOf, lengthField, lengthAllowed, totalOf, headOf}
 use Rattle.command.specs.Order.{Command, stateOf, stateAfter}
-use Rattle.command.specs.Refusals.{judgeOf}
-use Rattle.command.proofs.Judged.{total-pos}
+use Rattle.command.specs.Refusals.{headerVerdict, judgeOf}
+use Rattle.command.proofs.Judged.{total-pos, passed-header, passed-known, passed-length}
 use Rattle.batch.specs.Reading.{Stop, ended, stopped, Reading, reading, andThen, commandAt, onward, readingOf}
 use Rattle.batch.specs.Answers.{answerOf, acceptedAnswer}
 use Rattle.batch.specs.EndToEnd.{Stands, EndToEnd}
@@ -41,15 +41,22 @@ module _ (b : List ℕ) (at : ℕ) (c : Command) (r : Reading) (d : ℕ) (p : c 
   laid-verdict (Fault m k) s h = absurd (not-ended m (c .place + k) d h)
   laid-verdict Passed s h = laid-end (eqb (c .kind) 2) (s refl) refl h
 
+header-of : (d : ℕ) (ds : List ℕ) (st : State) → judgeOf (kindOf d) (suc (length ds)) (headOf (kindOf d) (d ∷ ds)) st ≡ Passed → headerVerdict (kindOf d) d (suc (length ds)) ≡ Passed
+unfolding headOf
+header-of d ds st v = passed-header (kindOf d) (suc (length ds)) (headOf (kindOf d) (d ∷ ds)) st v
+
 -- the command that a batch has at a place, where it passes
 stands : (b : List ℕ) (at d : ℕ) (ds : List ℕ) (st : State) → drop at b ≡ d ∷ ds → judgeOf (kindOf d) (suc (length ds)) (headOf (kindOf d) (d ∷ ds)) st ≡ Passed →
     Stands b at (commandAt (kindOf d) (d ∷ ds) at st)
 stands b at d ds st e v =
     let first : d ≡ getD b at 0 = sym (ap (λ (l : List ℕ). getD l 0 0) e) ∙ simp (getD-drop, add-zero) in
     let t = passes-in d ds at st v in
+    let v′ = header-of d ds st v in
     let n : length b - at ≡ suc (length ds) = sym (length-drop at b) ∙ ap length e in
     record {
       place = refl;
+      known = passed-known (kindOf d) d (suc (length ds)) v′;
+      allowed = ap (λ (x : ℕ). lengthAllowed (kindOf d) (lengthField x)) (sym first) ∙ passed-length (kindOf d) d (suc (length ds)) v′;
       kind = ap kindOf first;
       total = ap (totalOf (kindOf d)) first;
       head = ap (headOf (kindOf d)) (sym e);

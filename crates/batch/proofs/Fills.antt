@@ -23,7 +23,7 @@ use Rattle.batch.specs.declared.Onward.the-variants.{End, Then}
 use Rattle.batch.specs.declared.Turn.{Turn}
 use Rattle.batch.specs.declared.Turn.the-variants.{Refused, Last, Next}
 use Rattle.batch.specs.Reading.{Stop, ended, Whole, Reading, reading, andThen, readingOf}
-use Rattle.batch.specs.Records.{stamp, written}
+use Rattle.batch.specs.Records.{putWords, written}
 use Rattle.batch.specs.Answers.{recorded}
 use Rattle.batch.specs.Turns.{turned, turnOf, here, Passes, onwardOf}
 use Rattle.batch.proofs.Walk.{walk, reading-walk, then, turn-at, walk-end}
@@ -77,8 +77,8 @@ module _ (b : List ℕ) (at d k : ℕ) (st : State) (ed : d ≡ getD b at 0) (ek
         ∙ ap₂ (λ (x : ℕ) (y : List ℕ). commandOf k at x y st) (ap (totalOf k) begins ∙ sym et) (sym eh))
 
     pub record-here : {B : Type 0} (put : B → ℕ → ℕ → B) (r r′ : B) (w : List ℕ) → w ≡ recordOf (commandOf k at t h st) →
-        r′ ≡ stamp put r (st .commands) w 16 → r′ ≡ stamp put r (st .commands) (recordOf (here (drop at b) at st)) 16
-    record-here put r r′ w ew er = er ∙ ap (λ (x : List ℕ). stamp put r (st .commands) x 16) (ew ∙ ap recordOf it)
+        r′ ≡ putWords put r (st .commands) w 16 → r′ ≡ putWords put r (st .commands) (recordOf (here (drop at b) at st)) 16
+    record-here put r r′ w ew er = er ∙ ap (λ (x : List ℕ). putWords put r (st .commands) x 16) (ew ∙ ap recordOf it)
 
 pub ruleset onward-laws = (onward-end, onward-then, record-here)
 
@@ -158,7 +158,7 @@ module _ (b : List ℕ) (L : ℕ) (el : L ≡ length b) (at : ℕ) (st : State) 
 
     -- the record of this command
     module _ {B : Type 0} (put : B → ℕ → ℕ → B) (capacity : ℕ) (r₀ r r′ : B) (inv : written put (walk (drop at b) 0 at st .passed) (st .commands) r ≡ recorded put capacity b r₀)
-        (er : r′ ≡ stamp put r (st .commands) (recordOf (here (drop at b) at st)) 16) where
+        (er : r′ ≡ putWords put r (st .commands) (recordOf (here (drop at b) at st)) 16) where
       pub fill-last : x ≡ End → r′ ≡ recorded put capacity b r₀
       unfolding written
       fill-last e = er ∙ ap (λ (x : Reading). written put (x .passed) (st .commands) r) (sym (walks End e)) ∙ inv

@@ -1,5 +1,5 @@
 pub mod Turns
-pub mod Stamps
+pub mod RecordWords
 pub mod Walk
 pub mod Scans
 pub mod Fills

@@ -90,7 +90,7 @@ module _ (d : ℕ) (ds : List ℕ) (at : ℕ) (st : State) where
   unfolding headOf
   passes-in e = passed-fits (kindOf d) d (suc (length ds)) (passed-header (kindOf d) (suc (length ds)) (headOf (kindOf d) (d ∷ ds)) st e)
 
-  -- THE PAPER'S LAW: a batch is its first command, then the rest of the list
+  -- LAW: a batch is its first command, then the rest of the list
   pub walk-turn : walk (d ∷ ds) 0 at st ≡ then (turnOf (d ∷ ds) st) (d ∷ ds) at st
   unfolding walk turnOf
   walk-turn = by-verdict (judgeOf (kindOf d) (suc (length ds)) (headOf (kindOf d) (d ∷ ds)) st) passes-in

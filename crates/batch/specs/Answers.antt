@@ -56,7 +56,7 @@ bytesAnswerOf capacity b r =
 unfoldable pub bytesRecordsOf : ℕ → List ℕ → List ℕ → List ℕ
 bytesRecordsOf capacity b r = cond (eqb (length b % 4) 0) (recordedIn putLe capacity (length r / 4) (dwordsOf b) r) r
 
--- what the first pass finds, before 10 is known
+-- what the first pass finds, 1 and 10 aside
 abbrev pub scanned : ℕ → Stop → Scanned
 scanned n (ended d) = Ended n d
 scanned n (stopped m p) = Stopped m p

@@ -3,12 +3,15 @@ use mathlib.Core.Path.{_≡_}
 use mathlib.Core.List.{List, [], _∷_}
 use Prim.Native.Nat.{ℕ, _+_, _≤_}
 use lib.ListN.{length, getD, drop}
-use Rattle.command.specs.Kinds.{kindOf, totalOf, headOf}
+use mathlib.Core.Bool.{true}
+use Rattle.command.specs.Kinds.{noKind, kindOf, lengthField, lengthAllowed, totalOf, headOf}
 use Rattle.command.specs.Order.{Command}
 
--- the command c is what stands in b at a place, whole
+-- the command c is what stands in b at a place: a kind of the table, with a length that it allows, whole
 pub record Stands (b : List ℕ) (at : ℕ) (c : Command) : Type 0 where
   pub place : c .place ≡ at
+  pub known : c .kind ≡ noKind → ⊥
+  pub allowed : lengthAllowed (c .kind) (lengthField (getD b at 0)) ≡ true
   pub kind : c .kind ≡ kindOf (getD b at 0)
   pub total : c .total ≡ totalOf (c .kind) (getD b at 0)
   pub head : c .head ≡ headOf (c .kind) (drop at b)

@@ -42,8 +42,8 @@ abbrev pub onward : Verdict → Command → Reading → Reading
 onward (Fault m s) c rest = reading [] (stopped m (c .place + s))
 onward Passed c rest = cond (eqb (c .kind) 2) (reading (c ∷ []) (ended (c .place + 1))) (andThen c rest)
 
--- The list that is left of a batch, which starts at a place, after the commands cs, the nearest first. The first number counts the dwords
--- that the last command still has. 2: "slice used up before END (place: its length)".
+-- The list that is left of a batch, which starts at a place, after the commands cs, the nearest first. n counts the dwords that the
+-- last command still has. 2: "slice used up before END (place: its length)".
 unfoldable pub read : ℕ → List ℕ → ℕ → ℕ → List Command → Reading
 read capacity [] n at cs = reading [] (stopped 2 at)
 read capacity (d ∷ ds) (suc n) at cs = read capacity ds n (at + 1) cs

@@ -11,11 +11,11 @@ slot i f = 16 * i + f
 
 module _ {B : Type 0} (put : B → ℕ → ℕ → B) where
   -- the first n words of record i set to those of a list
-  unfoldable pub stamp : B → ℕ → List ℕ → ℕ → B
-  stamp r i ws zero = r
-  stamp r i ws (suc f) = put (stamp r i ws f) (slot i f) (getD ws f 0)
+  unfoldable pub putWords : B → ℕ → List ℕ → ℕ → B
+  putWords r i ws zero = r
+  putWords r i ws (suc f) = put (putWords r i ws f) (slot i f) (getD ws f 0)
 
   -- the records of commands, from record i on
   unfoldable pub written : List Command → ℕ → B → B
   written [] i r = r
-  written (c ∷ cs) i r = written cs (i + 1) (stamp r i (recordOf c) 16)
+  written (c ∷ cs) i r = written cs (i + 1) (putWords r i (recordOf c) 16)

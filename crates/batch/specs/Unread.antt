@@ -1,4 +1,4 @@
--- The dwords of a batch that no rule reads. Demand 3 and the law on what follows END speak of them.
+-- Dwords of a batch that no rule reads: what demand 3 and the law on what follows END speak of.
 use mathlib.Core.Path.{_≡_}
 use mathlib.Core.Logic.{_⊎_}
 use mathlib.Core.List.{List, [], _∷_}

@@ -5,7 +5,7 @@ ghost use lib.ListN.{length, getD, set, drop};
 ghost use Rattle.words.specs.Dwords.{dwordsIn, buffer, putIn};
 ghost use Rattle.command.specs.Kinds.{kindOf};
 ghost use Rattle.batch.specs.Reading.{readingOf, Whole};
-ghost use Rattle.batch.specs.Records.{slot, stamp, written};
+ghost use Rattle.batch.specs.Records.{slot, putWords, written};
 ghost use Rattle.batch.specs.Answers.{scanOf, decided, refusedAnswer, acceptedAnswer, recorded, answerOf, recordsOf, bytesAnswerOf, bytesRecordsOf};
 ghost use Rattle.batch.specs.declared.Scanned.the-variants.{Stopped, Ended};
 ghost use Rattle.batch.specs.Turns.{turnOf, Passes, onwardOf, here};
@@ -33,7 +33,7 @@ pub struct Answer {
     pub dwords: u64,
 }
 
-// What the first pass finds: a refusal from 2 to 9, or the end of the batch.
+// What is found before anything is written: a refusal, or the end of the batch.
 pub enum Scanned {
     Stopped { number: u32, place: usize },
     Ended { commands: usize, dwords: usize },
@@ -135,10 +135,10 @@ pub fn slot_of(i: usize, f: usize) -> usize
     16 * i + f
 }
 
-// Writes the words of record i.
+// Writes the words of record i. Here and below a contract says what each slice holds at exit, and what dwords the buffer then has.
 fn put(rd: &mut [u32], rb: &mut [u8], i: usize, w: [u32; 16])
     requires { ⌜ (16 * i + 16 ≤ length (dwordsIn (now rd) (now rb))) × (i < 2 ^ 32) ⌝ }
-    ensures { λ _. ⌜ (buffer (now (rd .exit)) (now (rb .exit)) ≡ stamp putIn (buffer (now (rd .entry)) (now (rb .entry))) i w 16) × (dwordsIn (now (rd .exit)) (now (rb .exit)) ≡ stamp set (dwordsIn (now (rd .entry)) (now (rb .entry))) i w 16) ⌝ }
+    ensures { λ _. ⌜ (buffer (now (rd .exit)) (now (rb .exit)) ≡ putWords putIn (buffer (now (rd .entry)) (now (rb .entry))) i w 16) × (dwordsIn (now (rd .exit)) (now (rb .exit)) ≡ putWords set (dwordsIn (now (rd .entry)) (now (rb .entry))) i w 16) ⌝ }
 {
     let mut f: usize = 0;
     while f < 16 {
@@ -159,7 +159,7 @@ fn record_as(
     rb: &mut [u8],
 ) -> Onward
     requires { ⌜ (at < length (dwordsIn (now dw) (now by))) × (at < 16384) × (d ≡ getD (dwordsIn (now dw) (now by)) at 0) × (k ≡ kindOf d) × (st .commands ≤ at) × (st .objects ≤ at) × Passes (turnOf (drop at (dwordsIn (now dw) (now by))) st) × (16 * st .commands + 16 ≤ length (dwordsIn (now rd) (now rb))) ⌝ }
-    ensures { λ r. ⌜ (r ≡ onwardOf (drop at (dwordsIn (now (dw .entry)) (now (by .entry)))) st) × (buffer (now (rd .exit)) (now (rb .exit)) ≡ stamp putIn (buffer (now (rd .entry)) (now (rb .entry))) (st .commands) (recordOf (here (drop at (dwordsIn (now (dw .entry)) (now (by .entry)))) at st)) 16) × (dwordsIn (now (rd .exit)) (now (rb .exit)) ≡ stamp set (dwordsIn (now (rd .entry)) (now (rb .entry))) (st .commands) (recordOf (here (drop at (dwordsIn (now (dw .entry)) (now (by .entry)))) at st)) 16) ⌝ }
+    ensures { λ r. ⌜ (r ≡ onwardOf (drop at (dwordsIn (now (dw .entry)) (now (by .entry)))) st) × (buffer (now (rd .exit)) (now (rb .exit)) ≡ putWords putIn (buffer (now (rd .entry)) (now (rb .entry))) (st .commands) (recordOf (here (drop at (dwordsIn (now (dw .entry)) (now (by .entry)))) at st)) 16) × (dwordsIn (now (rd .exit)) (now (rb .exit)) ≡ putWords set (dwordsIn (now (rd .entry)) (now (rb .entry))) (st .commands) (recordOf (here (drop at (dwordsIn (now (dw .entry)) (now (by .entry)))) at st)) 16) ⌝ }
 {
     let t = total(k, d);
     let h = own_dwords(dw, by, at, k, d);
@@ -176,7 +176,7 @@ fn record_as(
 // Writes the record of the command at a place, with code of its own for OBJECTs and for no-ops.
 fn record_at(dw: &[u32], by: &[u8], at: usize, st: State, rd: &mut [u32], rb: &mut [u8]) -> Onward
     requires { ⌜ (at < length (dwordsIn (now dw) (now by))) × (at < 16384) × (st .commands ≤ at) × (st .objects ≤ at) × Passes (turnOf (drop at (dwordsIn (now dw) (now by))) st) × (16 * st .commands + 16 ≤ length (dwordsIn (now rd) (now rb))) ⌝ }
-    ensures { λ r. ⌜ (r ≡ onwardOf (drop at (dwordsIn (now (dw .entry)) (now (by .entry)))) st) × (buffer (now (rd .exit)) (now (rb .exit)) ≡ stamp putIn (buffer (now (rd .entry)) (now (rb .entry))) (st .commands) (recordOf (here (drop at (dwordsIn (now (dw .entry)) (now (by .entry)))) at st)) 16) × (dwordsIn (now (rd .exit)) (now (rb .exit)) ≡ stamp set (dwordsIn (now (rd .entry)) (now (rb .entry))) (st .commands) (recordOf (here (drop at (dwordsIn (now (dw .entry)) (now (by .entry)))) at st)) 16) ⌝ }
+    ensures { λ r. ⌜ (r ≡ onwardOf (drop at (dwordsIn (now (dw .entry)) (now (by .entry)))) st) × (buffer (now (rd .exit)) (now (rb .exit)) ≡ putWords putIn (buffer (now (rd .entry)) (now (rb .entry))) (st .commands) (recordOf (here (drop at (dwordsIn (now (dw .entry)) (now (by .entry)))) at st)) 16) × (dwordsIn (now (rd .exit)) (now (rb .exit)) ≡ putWords set (dwordsIn (now (rd .entry)) (now (rb .entry))) (st .commands) (recordOf (here (drop at (dwordsIn (now (dw .entry)) (now (by .entry)))) at st)) 16) ⌝ }
 {
     let d = word(dw, by, at);
     let k = kind(d);

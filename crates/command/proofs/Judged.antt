@@ -5,7 +5,7 @@ use Prim.Native.Nat.{ℕ, zero, suc, _+_, _≤_, _<_}
 use native.Mathlib.Omega.{arith}
 use mathlib.Core.List.{List, [], _∷_, _++_}
 use lib.Dec.{T, eqb, ltb, leb}
-use borrow.Author.Tests.{ltb-false, ltb-true, leb-true, eqb-true, eq-eqb, ne-eqb, le-ltb, not-false}
+use borrow.Author.Tests.{ltb-false, ltb-true, leb-true, eqb-true, eqb-false, eq-eqb, ne-eqb, le-ltb, not-false}
 use Rattle.laws.specs.Rows.{Row, firstRow}
 use Rattle.laws.proofs.Tests.{both-left, both-right}
 use Rattle.command.specs.declared.State.{State}
@@ -55,22 +55,25 @@ unfolding headerVerdict judgeOf
 passed-header k left h st e = first-passes (headerRows k (dword h 0) left) (ownRows k h st) e
 
 -- what rows 3 to 5 leave
-passed-rows : (a b c : Bool) → cond a (Fault 3 0) (cond b (Fault 4 0) (cond c (Fault 5 0) Passed)) ≡ Passed → (b ≡ false) × (c ≡ false)
+passed-rows : (a b c : Bool) → cond a (Fault 3 0) (cond b (Fault 4 0) (cond c (Fault 5 0) Passed)) ≡ Passed → (a ≡ false) × (b ≡ false) × (c ≡ false)
 passed-rows true b c e = absurd (never 3 0 e)
 passed-rows false true c e = absurd (never 4 0 e)
 passed-rows false false true e = absurd (never 5 0 e)
-passed-rows false false false e = (refl, refl)
+passed-rows false false false e = (refl, refl, refl)
 
 module _ (k d left : ℕ) (e : headerVerdict k d left ≡ Passed) where
-  split : (not (lengthAllowed k (lengthField d)) ≡ false) × (ltb left (totalOf k d) ≡ false)
+  split : (eqb k noKind ≡ false) × (not (lengthAllowed k (lengthField d)) ≡ false) × (ltb left (totalOf k d) ≡ false)
   unfolding headerVerdict
   split = passed-rows (eqb k noKind) (not (lengthAllowed k (lengthField d))) (ltb left (totalOf k d)) e
 
   pub passed-fits : totalOf k d ≤ left
-  passed-fits = ltb-false left (totalOf k d) (split .1)
+  passed-fits = ltb-false left (totalOf k d) (split .2)
 
-  passed-length : lengthAllowed k (lengthField d) ≡ true
-  passed-length = not-false (lengthAllowed k (lengthField d)) (split .0)
+  pub passed-known : k ≡ noKind → ⊥
+  passed-known = eqb-false k noKind (split .0)
+
+  pub passed-length : lengthAllowed k (lengthField d) ≡ true
+  passed-length = not-false (lengthAllowed k (lengthField d)) (split .1)
 
 -- a kind's own dwords are among its total
 own-beyond : (k n : ℕ) → 8 ≤ k → ownDwords k ≤ cond (ltb k 3) 1 (n + 2)

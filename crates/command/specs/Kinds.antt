@@ -14,16 +14,24 @@ media opcode subopcode = 3 * 2 ^ 13 + 2 * 2 ^ 11 + opcode * 2 ^ 8 + subopcode
 abbrev pub noKind : ℕ
 noKind = 255
 
--- The table's kinds 0 to 7, by a command's first dword. "Kinds 0 to 2 match as a whole dword (H)"; a media command matches by type and opcodes.
+-- The table's kinds 0 to 7, by a command's first dword. "Kinds 0 to 2 match as a whole dword (H)"; a media command by its type and opcodes.
 unfoldable pub kindOf : ℕ → ℕ
 kindOf d =
+    -- 0 no-op 0x00000000
     cond (eqb d 0x0000_0000) 0
+    -- 1 MI_FLUSH 0x02000000
     (cond (eqb d 0x0200_0000) 1
+    -- 2 END 0x05000000
     (cond (eqb d 0x0500_0000) 2
+    -- 3 MEDIA_VFE_STATE 0x70000006
     (cond (eqb (field (bits 31 16) d) (media 0 0)) 3
+    -- 4 MEDIA_CURBE_LOAD 0x70010002
     (cond (eqb (field (bits 31 16) d) (media 0 1)) 4
+    -- 5 MEDIA_INTERFACE_DESCRIPTOR_LOAD 0x70020002
     (cond (eqb (field (bits 31 16) d) (media 0 2)) 5
+    -- 6 MEDIA_STATE_FLUSH 0x70040000
     (cond (eqb (field (bits 31 16) d) (media 0 4)) 6
+    -- 7 MEDIA_OBJECT 0x7100nnnn
     (cond (eqb (field (bits 31 16) d) (media 1 0)) 7
     noKind)))))))
 
@@ -46,7 +54,7 @@ lengthAllowed k n =
 unfoldable pub totalOf : ℕ → ℕ → ℕ
 totalOf k d = cond (ltb k 3) 1 (lengthField d + 2)
 
--- How many dwords a kind has of its own: all but an OBJECT's, whose "inline data" starts "from dword 6".
+-- How many dwords a kind has of its own: its whole total, but six of an OBJECT, which has "inline data from dword 6".
 unfoldable pub ownDwords : ℕ → ℕ
 ownDwords k = cond (eqb k 7) 6 (cond (eqb k 3) 8 (cond (eqb k 4) 4 (cond (eqb k 5) 4 (cond (eqb k 6) 2 1))))
 

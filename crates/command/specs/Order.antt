@@ -23,10 +23,11 @@ abbrev pub among : ℕ → List ℕ → Bool
 among k [] = false
 among k (x ∷ xs) = eqb k x || among k xs
 
--- 1 where a command of the kinds stands since the last of the kinds in `last`, or since the start; else 0
+-- one command of kind k more, after what `before` says
 abbrev pub since : List ℕ → List ℕ → ℕ → ℕ → ℕ
 since kinds last k before = cond (among k last) 0 (cond (among k kinds) 1 before)
 
+-- 1 where a command of the kinds stands since the last of the kinds in `last`, or since the start; else 0
 unfoldable pub standsSince : List ℕ → List ℕ → List Command → ℕ
 standsSince kinds last [] = 0
 standsSince kinds last (c ∷ cs) = since kinds last (c .kind) (standsSince kinds last cs)

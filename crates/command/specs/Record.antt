@@ -20,7 +20,7 @@ vfeFields c =
     ∷ []
 
 -- "OBJECT: index, scoreboard use, children, synchronised, X, Y, colour, mask, inline count, indirect length, indirect address, record number
--- of the VFE in force, object number"
+-- of the VFE in force, object number"; inline data stands "from dword 6"
 abbrev pub objectFields : Command → List ℕ
 objectFields c =
     descriptorIndex (c .head)

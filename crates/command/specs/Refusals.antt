@@ -1,4 +1,5 @@
--- Why a command is turned away: rows 3 to 9 of document 01's table, in its order. A place counts from the command's first dword.
+-- Why a command is turned away: rows 3 to 9 of document 01's table. "The first faulty command decides; inside it, table order. Place is the
+-- command's first dword, except as shown": here a place counts from that dword.
 use Prim.Native.Nat.{ℕ, _+_, _*_, _%_}
 use mathlib.Core.Bool.{Bool, not, _&&_, _||_}
 use mathlib.Core.List.{List, [], _∷_, _++_}

@@ -22,7 +22,7 @@ dwordsIn dw (b ∷ by) = dwordsOf (b ∷ by)
 
 -- bytes with dword k, which is v, stored: four bytes, the low byte first
 abbrev pub putLe : List ℕ → ℕ → ℕ → List ℕ
-putLe l k v = set (set (set (set l (4 * k) (v % 2 ^ 8)) (4 * k + 1) (v / 2 ^ 8 % 2 ^ 8)) (4 * k + 2) (v / 2 ^ 16 % 2 ^ 8)) (4 * k + 3) (v / 2 ^ 24)
+putLe l k v = set (set (set (set l (4 * k) (v % 2 ^ 8)) (4 * k + 1) (v / 2 ^ 8 % 2 ^ 8)) (4 * k + 2) (v / 2 ^ 16 % 2 ^ 8)) (4 * k + 3) (v / 2 ^ 24 % 2 ^ 8)
 
 -- A lent buffer: dwords, or bytes, of which a caller leaves the other empty.
 pub record Buffer : Type 0 where

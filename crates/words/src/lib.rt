@@ -47,10 +47,10 @@ fn store(by: &mut [u8], k: usize, v: u32)
     by[4 * k] = (v % 256) as u8;
     by[4 * k + 1] = ((v >> 8) % 256) as u8;
     by[4 * k + 2] = ((v >> 16) % 256) as u8;
-    by[4 * k + 3] = (v >> 24) as u8;
+    by[4 * k + 3] = ((v >> 24) % 256) as u8;
 }
 
-// Stores dword k of a lent buffer.
+// Stores dword k of a lent buffer. The contract says what each slice holds at exit, and what dwords the buffer then has.
 pub fn store_in(dw: &mut [u32], by: &mut [u8], k: usize, v: u32)
     requires { ⌜ k < length (dwordsIn (now dw) (now by)) ⌝ }
     ensures { λ _. ⌜ (buffer (now (dw .exit)) (now (by .exit)) ≡ putIn (buffer (now (dw .entry)) (now (by .entry))) k v) × (dwordsIn (now (dw .exit)) (now (by .exit)) ≡ set (dwordsIn (now (dw .entry)) (now (by .entry))) k v) ⌝ }

@@ -4,8 +4,8 @@ use native.Mathlib.Omega.{arith}
 use lib.ListN.{length, set}
 use borrow.Author.Needs.{needs}
 use Rattle.words.specs.Dwords.{dwordsIn, buffer, putIn}
-use Rattle.batch.specs.Records.{stamp}
-use Rattle.batch.proofs.Stamps.{stamps, slot-there}
+use Rattle.batch.specs.Records.{putWords}
+use Rattle.batch.proofs.RecordWords.{words-laws, slot-there}
 use Rattle.batch.proofs.put.Statement.{statement}
 use Rattle.batch.proofs.put.Tie as tie
 use Rattle.batch.proofs.put.Reads as reads
@@ -14,13 +14,13 @@ use Rattle.batch.proofs.slot_of.Reads as slot-of-reads
 use Rattle.words.proofs.store_in.Reads as store-in-reads
 
 abbrev Inv-loop : tie.InvT-loop
-Inv-loop rd₀ rb₀ i w f₀ rd rb f = (f ≤ 16) × (length rd ≡ length rd₀) × (length rb ≡ length rb₀) × (buffer rd rb ≡ stamp putIn (buffer rd₀ rb₀) i w f) × (dwordsIn rd rb ≡ stamp set (dwordsIn rd₀ rb₀) i w f)
+Inv-loop rd₀ rb₀ i w f₀ rd rb f = (f ≤ 16) × (length rd ≡ length rd₀) × (length rb ≡ length rb₀) × (buffer rd rb ≡ putWords putIn (buffer rd₀ rb₀) i w f) × (dwordsIn rd rb ≡ putWords set (dwordsIn rd₀ rb₀) i w f)
 
 abbrev μ-loop : tie.MeasureT-loop
 μ-loop rd₀ rb₀ i w f₀ rd rb f = 16 - f
 
 loop-holds : tie.Need-loop-holds Inv-loop μ-loop
-loop-holds c = (search needs, refl, refl, search stamps, search stamps)
+loop-holds c = (search needs, refl, refl, search words-laws, search words-laws)
 
 slot-of-requires : tie.Need-slot-of-requires Inv-loop μ-loop
 slot-of-requires c κs = search needs
@@ -41,7 +41,7 @@ loop-less : tie.Need-loop-less Inv-loop μ-loop
 loop-less c = search needs
 
 loop-again : tie.Need-loop-again Inv-loop μ-loop
-loop-again c = (search needs, search needs, search needs, search stamps, search stamps)
+loop-again c = (search needs, search needs, search needs, search words-laws, search words-laws)
 
 same-length : tie.Need-same-length Inv-loop μ-loop
 same-length c = search needs
@@ -50,7 +50,7 @@ same-length-2 : tie.Need-same-length-2 Inv-loop μ-loop
 same-length-2 c = search needs
 
 returns : tie.Need-returns Inv-loop μ-loop
-returns c = (search stamps, search stamps)
+returns c = (search words-laws, search words-laws)
 
 pub put-spec : {M : Type 1} → statement M
 put-spec =
