@@ -24,7 +24,7 @@ enum {
     MPL_LENGTH_FIELD = 4,       /* length field not allowed; place: the command */
     MPL_RUNS_PAST = 5,          /* command runs past the slice; place: the command */
     MPL_MUST_BE_ZERO = 6,       /* a must-be-zero bit is set; place: the first such dword */
-    MPL_LOAD_FIELDS = 7,        /* load length or address not a multiple of 32, or descriptor length outside 32 to 2,048; place: the dword */
+    MPL_LOAD_FIELDS = 7,        /* load length or address not a multiple of 32, or descriptor length outside 32 to 2,048; place: the first such dword */
     MPL_ORDER = 8,              /* commands out of order, or an index not below the count last loaded; place: the command */
     MPL_TOO_LARGE = 9,          /* a VFE exceeds the capacity, or a CURBE load the CURBE size in force; place: the command */
     MPL_RECORD_ROOM = 10,       /* all commands pass, but the record buffer has fewer than 16 words per command; place: dwords read */
@@ -43,8 +43,49 @@ enum {
     MPL_OBJECT = 7
 };
 
-/* Words of a record: kind, place, total, then the kind's fields, then zeros. */
-enum { MPL_RECORD_WORDS = 16 };
+enum {
+    MPL_BATCH_DWORDS_MOST = 16384,
+    MPL_RECORD_WORDS = 16,
+    MPL_RECORD_BYTES = 64
+};
+
+/* Words of a record: these three, then the kind's fields from word 3 on, then zeros. Word f of record i is records[16 * i + f]. */
+enum {
+    MPL_WORD_KIND = 0,
+    MPL_WORD_PLACE = 1,             /* of the command's first dword */
+    MPL_WORD_TOTAL = 2              /* dwords */
+};
+enum {                              /* MPL_VFE_STATE */
+    MPL_VFE_THREADS = 3,            /* the thread field */
+    MPL_VFE_ENTRIES = 4,            /* URB entries */
+    MPL_VFE_BYPASS = 5,             /* gateway bypass: 0 or 1 */
+    MPL_VFE_ENTRY_SIZE = 6,         /* rows */
+    MPL_VFE_CURBE_SIZE = 7,         /* rows */
+    MPL_VFE_DWORD_5 = 8,            /* scoreboard enable, type, mask */
+    MPL_VFE_DWORD_6 = 9,            /* deltas 0 to 3 */
+    MPL_VFE_DWORD_7 = 10            /* deltas 4 to 7 */
+};
+enum {                              /* MPL_CURBE_LOAD, MPL_DESCRIPTOR_LOAD */
+    MPL_LOAD_LENGTH = 3,            /* CURBE load: bytes */
+    MPL_LOAD_COUNT = 3,             /* descriptor load: descriptors, length / 32 */
+    MPL_LOAD_ADDRESS = 4
+};
+enum { MPL_STATE_FLUSH_DWORD_1 = 3 };
+enum {                              /* MPL_OBJECT */
+    MPL_OBJECT_INDEX = 3,           /* descriptor index */
+    MPL_OBJECT_USES_SCOREBOARD = 4, /* its own bit, 0 or 1 */
+    MPL_OBJECT_CHILDREN = 5,
+    MPL_OBJECT_SYNCHRONISED = 6,
+    MPL_OBJECT_X = 7,
+    MPL_OBJECT_Y = 8,
+    MPL_OBJECT_COLOUR = 9,
+    MPL_OBJECT_MASK = 10,
+    MPL_OBJECT_INLINE = 11,         /* dwords of inline data */
+    MPL_OBJECT_INDIRECT_LENGTH = 12,
+    MPL_OBJECT_INDIRECT_ADDRESS = 13,
+    MPL_OBJECT_VFE = 14,            /* record number of the VFE in force */
+    MPL_OBJECT_NUMBER = 15          /* objects before it in the batch */
+};
 
 /* number 0: accepted, with place 0; else a refusal, with commands and dwords 0. */
 struct mpl_batch {
@@ -58,7 +99,10 @@ struct mpl_batch {
  */
 struct mpl_batch mpl_check_batch_dwords(const uint32_t *batch, size_t batch_len, uint32_t capacity, uint32_t *records, size_t records_len);
 
-/* The same over little-endian bytes: records of 64 bytes, their words little-endian; also 17. A tail of `records` under 64 bytes is no fault. */
+/*
+ * The same over little-endian bytes: records of 64 bytes, their words little-endian; also 17, on which `records`
+ * is as it was too. A tail of `records` under 64 bytes is no fault.
+ */
 struct mpl_batch mpl_check_batch(const uint8_t *batch, size_t batch_len, uint32_t capacity, uint8_t *records, size_t records_len);
 
 #ifdef __cplusplus

@@ -52,7 +52,7 @@ impl<T: Cell> Guarded<T> {
 
     /// Puts `content` where the right guard begins: what a reader would meet
     /// that goes past the lent part.
-    pub fn bait(mut self, content: &[T]) -> Self {
+    pub fn followed_by(mut self, content: &[T]) -> Self {
         let end = self.start + self.length;
         self.cells[end..end + content.len()].copy_from_slice(content);
         self

@@ -53,10 +53,10 @@ module _ (put : List ℕ → ℕ → ℕ → List ℕ) (of : ℕ → ℕ) (view 
     words-at r (suc k) f p q =
         by-eq f k
         (λ e. subst (λ (g : ℕ). view (putWords put r i ws (suc k)) (slot i g) ≡ kept (getD ws g 0)) (sym e)
-          (same (putWords put r i ws k) (slot i k) (getD ws k 0)
-            (subst (λ (n : ℕ). slot i k < room n) (sym (words-length r k)) (subst (λ (g : ℕ). slot i g < room (length r)) e q))))
+        (same (putWords put r i ws k) (slot i k) (getD ws k 0)
+        (subst (λ (n : ℕ). slot i k < room n) (sym (words-length r k)) (subst (λ (g : ℕ). slot i g < room (length r)) e q))))
         (λ n. apart (putWords put r i ws k) (slot i k) (getD ws k 0) (slot i f) (λ e. n (omega arith))
-          ∙ words-at r k f (let z : f ≢ k = n in omega arith) q)
+        ∙ words-at r k f (let z : f ≢ k = n in omega arith) q)
 
   -- every other element is as it was
   written-other : (cs : List Command) (i : ℕ) (r : List ℕ) (p : ℕ) → ((m f : ℕ) → m < length cs → f < 16 → of p ≢ slot (i + m) f) → getD (written put cs i r) p 0 ≡ getD r p 0
@@ -117,7 +117,7 @@ module _ (capacity : ℕ) (b r : List ℕ) (c d : ℕ) (h : answerOf capacity b 
       ap (λ (l : List ℕ). getD l (slot i f) 0) filled
       ∙ ap (λ (k : ℕ). getD (written set (readingOf capacity b .passed) 0 r) k 0) e
       ∙ written-at set (λ p. p) (λ r k. getD r k 0) (λ v. v) (λ n. n) length-set dword-other (λ r k v j n. dword-other r k v j n) dword-same
-        (readingOf capacity b .passed) 0 r i f z (omega arith) (omega arith) q
+      (readingOf capacity b .passed) 0 r i f z (omega arith) (omega arith) q
 
   -- LAW: every other word is as it was
   pub record-other : (k : ℕ) → ((i f : ℕ) → i < c → f < 16 → k ≢ slot i f) → getD (recordsOf capacity b r) k 0 ≡ getD r k 0
@@ -125,7 +125,7 @@ module _ (capacity : ℕ) (b r : List ℕ) (c d : ℕ) (h : answerOf capacity b 
       let n = accepted-commands capacity b r c d h in
       ap (λ (l : List ℕ). getD l k 0) filled
       ∙ written-other set (λ p. p) (λ r k. getD r k 0) (λ v. v) (λ n. n) length-set dword-other (λ r k v j n. dword-other r k v j n) dword-same
-        (readingOf capacity b .passed) 0 r k (λ m f p q e. o m f (omega arith) q (omega arith))
+      (readingOf capacity b .passed) 0 r k (λ m f p q e. o m f (omega arith) q (omega arith))
 
 -- the byte entry: the same, with a record's words as little-endian dwords
 module _ (capacity : ℕ) (b r : List ℕ) (c d : ℕ) (h : bytesAnswerOf capacity b r ≡ acceptedAnswer c d) where
@@ -150,7 +150,7 @@ module _ (capacity : ℕ) (b r : List ℕ) (c d : ℕ) (h : bytesAnswerOf capaci
       ap (λ (x : List ℕ). leAt x (4 * slot i f)) bytes-filled
       ∙ ap (λ (k : ℕ). leAt (written putLe (readingOf capacity (dwordsOf b) .passed) 0 r) (4 * k)) e
       ∙ written-at putLe (λ p. p / 4) (λ r k. leAt r (4 * k)) (λ v. v % 2 ^ 32) (λ n. n / 4) length-put byte-other put-apart put-same
-        (readingOf capacity (dwordsOf b) .passed) 0 r i f z (omega arith) (omega arith) q
+      (readingOf capacity (dwordsOf b) .passed) 0 r i f z (omega arith) (omega arith) q
 
   -- LAW: every byte of another dword, and every byte that is of none, is as it was
   pub byte-record-other : (p : ℕ) → ((i f : ℕ) → i < c → f < 16 → p / 4 ≢ slot i f) → getD (bytesRecordsOf capacity b r) p 0 ≡ getD r p 0
@@ -158,4 +158,4 @@ module _ (capacity : ℕ) (b r : List ℕ) (c d : ℕ) (h : bytesAnswerOf capaci
       let n = accepted-commands capacity (dwordsOf b) (dwordsOf r) c d dwords-accepted-as in
       ap (λ (x : List ℕ). getD x p 0) bytes-filled
       ∙ written-other putLe (λ p. p / 4) (λ r k. leAt r (4 * k)) (λ v. v % 2 ^ 32) (λ n. n / 4) length-put byte-other put-apart put-same
-        (readingOf capacity (dwordsOf b) .passed) 0 r p (λ m f u q e. o m f (omega arith) q (omega arith))
+      (readingOf capacity (dwordsOf b) .passed) 0 r p (λ m f u q e. o m f (omega arith) q (omega arith))

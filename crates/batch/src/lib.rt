@@ -261,11 +261,11 @@ pub fn check(batch: &[u32], capacity: u32, records: &mut [u32]) -> Answer
     ensures { λ r. ⌜ (r ≡ answerOf capacity (now (batch .entry)) (now (records .entry))) × (now (records .exit) ≡ recordsOf capacity (now (batch .entry)) (now (records .entry))) ⌝ }
 {
     let none: [u8; 0] = [];
-    let mut no: [u8; 0] = [];
+    let mut empty: [u8; 0] = [];
     match decide(batch, &none, capacity, records.len()) {
         Scanned::Stopped { number, place } => refused(number, place),
         Scanned::Ended { commands, dwords } => {
-            fill(batch, &none, capacity, records, &mut no);
+            fill(batch, &none, capacity, records, &mut empty);
             accepted(commands, dwords)
         }
     }
@@ -279,11 +279,11 @@ pub fn check_bytes(batch: &[u8], capacity: u32, records: &mut [u8]) -> Answer
         return refused(17, batch.len() / 4);
     }
     let none: [u32; 0] = [];
-    let mut no: [u32; 0] = [];
+    let mut empty: [u32; 0] = [];
     match decide(&none, batch, capacity, records.len() / 4) {
         Scanned::Stopped { number, place } => refused(number, place),
         Scanned::Ended { commands, dwords } => {
-            fill(&none, batch, capacity, &mut no, records);
+            fill(&none, batch, capacity, &mut empty, records);
             accepted(commands, dwords)
         }
     }

@@ -26,7 +26,7 @@ fn compare(
     dwords: &mut Tally,
     bytes: &mut Tally,
 ) -> Result<(), String> {
-    let batch = Guarded::new(random, &case.batch).bait(&[END]);
+    let batch = Guarded::new(random, &case.batch).followed_by(&[END]);
     let records = Guarded::filled(random, case.records);
     let over_dwords = Entry {
         name: "dwords",
@@ -37,7 +37,7 @@ fn compare(
     .compare(&batch, case.capacity, &records)?;
     dwords.count(over_dwords.number);
 
-    let batch = Guarded::new(random, &case.bytes()).bait(&END.to_le_bytes());
+    let batch = Guarded::new(random, &case.bytes()).followed_by(&END.to_le_bytes());
     let records = Guarded::filled(random, case.record_bytes());
     let over_bytes = Entry {
         name: "bytes",

@@ -36,8 +36,8 @@ fn compare(
     let next = random.below(2 * case.states + 1) as u32;
 
     let lent = Lent {
-        batch: Guarded::new(random, &case.batch.batch).bait(&[END]),
-        run: Guarded::new(random, &case.run).bait(&[next]),
+        batch: Guarded::new(random, &case.batch.batch).followed_by(&[END]),
+        run: Guarded::new(random, &case.run).followed_by(&[next]),
         records: Guarded::filled(random, case.batch.records),
         states: Guarded::filled(random, case.states),
     };
@@ -52,8 +52,8 @@ fn compare(
     dwords.count(over_dwords.number);
 
     let lent = Lent {
-        batch: Guarded::new(random, &case.batch.bytes()).bait(&END.to_le_bytes()),
-        run: Guarded::new(random, &case.run_bytes()).bait(&next.to_le_bytes()),
+        batch: Guarded::new(random, &case.batch.bytes()).followed_by(&END.to_le_bytes()),
+        run: Guarded::new(random, &case.run_bytes()).followed_by(&next.to_le_bytes()),
         records: Guarded::filled(random, case.batch.record_bytes()),
         states: Guarded::filled(random, case.states),
     };

@@ -253,7 +253,7 @@ fn any_vfe(random: &mut Random) -> Command {
     Command::vfe(random, entries, entry_size, curbe_size)
 }
 
-/// Rows that the hungriest VFE asks for.
+/// Rows that the largest VFE asks for.
 pub(super) fn rows(commands: &[Command]) -> u32 {
     commands.iter().map(Command::rows).max().unwrap_or(0)
 }
