@@ -105,6 +105,18 @@ struct mpl_batch mpl_check_batch_dwords(const uint32_t *batch, size_t batch_len,
  */
 struct mpl_batch mpl_check_batch(const uint8_t *batch, size_t batch_len, uint32_t capacity, uint8_t *records, size_t records_len);
 
+/* lowest is 8 where no delta is in play. */
+struct mpl_in_play {
+    uint32_t count, lowest;
+};
+
+/*
+ * How many of the eight deltas are in play for an object, and which is the lowest: those set in its mask (bits 7:0 of its dword 5) and
+ * in its VFE's (bits 7:0 of VFE dword 5), where it uses a scoreboard (bit 21 of its dword 2, bit 31 of VFE dword 5); else none.
+ * Any dwords will do: other bits are not looked at.
+ */
+struct mpl_in_play mpl_deltas_in_play(uint32_t object_dword_2, uint32_t vfe_dword_5, uint32_t object_dword_5);
+
 #ifdef __cplusplus
 }
 #endif

@@ -5,6 +5,7 @@ use crate::random::Random;
 use std::fmt::Write;
 
 pub mod batch;
+pub mod in_play;
 #[cfg(feature = "order")]
 pub mod order;
 #[cfg(feature = "replay")]

@@ -1,2 +1,4 @@
 pub mod Tests
 pub mod BitRanges
+pub mod Find
+pub mod Table

@@ -1,6 +1,6 @@
 //! Compares the library with the second implementation on seeded cases.
 //!
-//! `compare [subject] [cases [seed [index]]]`: batch, order or replay alone;
+//! `compare [subject] [cases [seed [index]]]`: batch, in_play, order or replay alone;
 //! random cases per subject on top of the fixed ones, the seed, and one case to
 //! compare alone.
 
@@ -13,6 +13,7 @@ type Subject = (&'static str, fn(&Plan, &mut Report));
 /// As far as the features reach.
 const SUBJECTS: &[Subject] = &[
     ("batch", compare::batch::run),
+    ("in_play", compare::in_play::run),
     #[cfg(feature = "order")]
     ("order", compare::order::run),
     #[cfg(feature = "replay")]

@@ -1,5 +1,5 @@
 //! The order check: library against second implementation, over dwords and over
-//! bytes, and the deltas in play.
+//! bytes.
 
 use super::{print_input, Faults, Plan, Report, Tally};
 use crate::batch::{self, END, RECORD};
@@ -22,7 +22,6 @@ pub fn run(plan: &Plan, report: &mut Report) {
     if plan.only.is_none() {
         dwords.print(report);
         bytes.print(report);
-        in_play(plan, report);
     }
 }
 
@@ -196,54 +195,4 @@ fn describe(seed: u64, index: u64, case: &Case, difference: &str) -> String {
     print_input(&mut text, "batch", &case.batch.batch);
     print_input(&mut text, "run", &case.run);
     text
-}
-
-/// The dwords in which the rule looks at bits: own use, enable, masks.
-const OWN_USE: u32 = 1 << 21;
-const ENABLE: u32 = 1 << 31;
-
-/// Random triples in one case.
-const TRIPLES: usize = 256;
-
-/// Every pair of masks, for users and others, in dwords of any content; then
-/// random dwords.
-fn in_play(plan: &Plan, report: &mut Report) {
-    let mut random = Random::new(plan.seed);
-    for own_mask in 0..256 {
-        report.case(agree((0..1024).map(|number| {
-            let vfe_mask = number & 0xff;
-            let own_use = if number >> 8 & 1 == 1 { OWN_USE } else { 0 };
-            let enable = if number >> 9 & 1 == 1 { ENABLE } else { 0 };
-            [
-                random.word() & !OWN_USE | own_use,
-                random.word() & !(ENABLE | 0xff) | enable | vfe_mask,
-                random.word() & !0xff | own_mask,
-            ]
-        })));
-    }
-    for _ in 0..256 {
-        report.case(agree((0..TRIPLES).map(|_| {
-            // At times all bits but one, or one alone.
-            [(); 3].map(|()| match random.below(4) {
-                0 => 1 << random.below(32),
-                1 => !(1 << random.below(32)),
-                _ => random.word(),
-            })
-        })));
-    }
-}
-
-/// Both implementations on each triple.
-fn agree(mut triples: impl Iterator<Item = [u32; 3]>) -> Result<(), String> {
-    let differ = triples.find_map(|[object_2, vfe_5, object_5]| {
-        let library = ffi::deltas_in_play(object_2, vfe_5, object_5);
-        let second = order::deltas_in_play(object_2, vfe_5, object_5);
-        (library != second).then(|| {
-            format!(
-                "deltas in play of {object_2:x}, {vfe_5:x}, {object_5:x}: \
-                 library {library:?}, second {second:?}"
-            )
-        })
-    });
-    differ.map_or(Ok(()), Err)
 }

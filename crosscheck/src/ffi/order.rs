@@ -10,12 +10,6 @@ struct MplOrder {
     delta: u64,
 }
 
-#[repr(C)]
-struct MplInPlay {
-    count: u32,
-    lowest: u32,
-}
-
 extern "C" {
     fn mpl_check_order(
         batch: *const u8,
@@ -40,8 +34,6 @@ extern "C" {
         states: *mut u8,
         states_len: usize,
     ) -> MplOrder;
-
-    fn mpl_deltas_in_play(object_dword_2: u32, vfe_dword_5: u32, object_dword_5: u32) -> MplInPlay;
 }
 
 impl From<MplOrder> for Answer {
@@ -104,11 +96,4 @@ pub fn check_order_dwords(
         )
     }
     .into()
-}
-
-/// How many deltas are in play, and the lowest.
-pub fn deltas_in_play(object_dword_2: u32, vfe_dword_5: u32, object_dword_5: u32) -> (u32, u32) {
-    // SAFETY: numbers alone.
-    let in_play = unsafe { mpl_deltas_in_play(object_dword_2, vfe_dword_5, object_dword_5) };
-    (in_play.count, in_play.lowest)
 }

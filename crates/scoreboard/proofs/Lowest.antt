@@ -1,0 +1,100 @@
+-- The lowest delta that leads to an object: the code's numbers against the objects. Assumes nothing.
+use mathlib.Core.Path.{_≡_, refl, sym, ap, ap₂, _∙_}
+use mathlib.Core.Bool.{Bool, true, false, cond, _&&_}
+use mathlib.Core.List.{List, [], _∷_, map, List·Memᴰ}
+use Prim.Native.Nat.{ℕ, zero, suc, _+_, _-_, _/_, _^_, _<_, _≤_}
+use native.Mathlib.Omega.{arith}
+use borrow.Author.Tests.{eq-eqb, ne-eqb, lt-ltb, ltb-true}
+use lib.Dec.{ltb}
+use lib.Bits.{bitAnd}
+use lib.IntN.{ℤ}
+use mir.Syntax.{w32}
+use mir.Val.{toZ, ofZ}
+use mir.Facts.{toZ-ofZ}
+use Rattle.laws.specs.BitRanges.{bits, field}
+use Rattle.laws.proofs.BitRanges.{taken}
+use Rattle.scoreboard.specs.Deltas.{deltaX, deltaY}
+use Rattle.command.specs.Fields as fields
+use Rattle.command.specs.Fields.{dword}
+use Rattle.scoreboard.specs.InPlay.{bitSet, those, joinedMask}
+use Rattle.scoreboard.specs.Objects.{Delta, Object, meetsAt, meets, deltaAt, objectOf}
+use Rattle.laws.specs.Find.{firstFrom, findFirst}
+use Rattle.scoreboard.specs.Run.{someOf, lowestOf}
+use Rattle.scoreboard.specs.Lowest.{leadsAt, lowestAt}
+use Rattle.scoreboard.proofs.Nibbles.{x-fits, y-fits}
+use Rattle.scoreboard.proofs.Masks.{setBits, joined-set}
+use Rattle.scoreboard.proofs.Waits.{some-one, one-some, lowest-le, lowest-one}
+
+-- one bit, by shift and mask
+bit : (i m : ℕ) → field (bits i i) m ≡ bitAnd (m / 2 ^ i) 1
+bit i m = let e : i - i + 1 ≡ 1 = omega arith in taken i i m ∙ ap (λ (w : ℕ). bitAnd (m / 2 ^ i) (2 ^ w - 1)) e
+
+-- what `leads` shows
+module _ (x y mask d6 d7 jx jy i : ℕ) where
+  pub leads-off : (bitAnd (mask / 2 ^ i) 1 ≡ 1 → ⊥) → false ≡ leadsAt x y mask d6 d7 jx jy i
+  unfolding leadsAt
+  leads-off n = simp (ne-eqb (field (bits i i) mask) 1 (λ e. n (sym (bit i mask) ∙ e)))
+
+  pub leads-on : (b : Bool) (dx dy : ℤ) → bitAnd (mask / 2 ^ i) 1 ≡ 1 → dx ≡ deltaX d6 d7 i → dy ≡ deltaY d6 d7 i
+      → b ≡ meetsAt x y (toZ w32 (ofZ w32 dx)) (toZ w32 (ofZ w32 dy)) jx jy → b ≡ leadsAt x y mask d6 d7 jx jy i
+  unfolding leadsAt
+  leads-on b dx dy e p q r =
+      r
+      ∙ ap₂ (λ (u v : ℤ). meetsAt x y u v jx jy)
+      (ap (λ (z : ℤ). toZ w32 (ofZ w32 z)) p ∙ toZ-ofZ {w = w32} {z = deltaX d6 d7 i} (x-fits d6 d7 i))
+      (ap (λ (z : ℤ). toZ w32 (ofZ w32 z)) q ∙ toZ-ofZ {w = w32} {z = deltaY d6 d7 i} (y-fits d6 d7 i))
+      ∙ sym (ap (λ (t : Bool). t && meetsAt x y (deltaX d6 d7 i) (deltaY d6 d7 i) jx jy) (eq-eqb (field (bits i i) mask) 1 (bit i mask ∙ e)))
+
+-- the deltas of a mask, searched one after the other
+from-ge : (f : ℕ → Bool) (n i : ℕ) → i ≤ firstFrom n f i
+unfolding firstFrom
+from-ge f zero i = omega arith
+from-ge f (suc n) i = go (f i) (from-ge f n (suc i))
+  where
+    go : (t : Bool) → suc i ≤ firstFrom n f (suc i) → i ≤ cond t i (firstFrom n f (suc i))
+    go true ih = omega arith
+    go false ih = omega arith
+
+abbrev upFrom : ℕ → ℕ → List ℕ
+upFrom i zero = []
+upFrom i (suc n) = i ∷ upFrom (suc i) n
+
+module _ (v : List ℕ) (f : ℕ → Bool) (t : Delta → Bool) where
+  abbrev found : ℕ → Bool
+  found i = f i && t (deltaAt v i)
+
+  abbrev lowest : List ℕ → ℕ
+  lowest is = lowestOf t (map (deltaAt v) (those f is))
+
+  searched : (n i : ℕ) → i + n ≡ 8 → lowest (upFrom i n) ≡ firstFrom n found i
+  unfolding firstFrom
+  searched zero i e = let z : 8 ≡ i = omega arith in z
+  searched (suc n) i e = go (f i) (t (deltaAt v i)) refl (searched n (suc i) (omega arith)) (from-ge found n (suc i))
+    where
+      go : (p q : Bool) → t (deltaAt v i) ≡ q → lowest (upFrom (suc i) n) ≡ firstFrom n found (suc i) → suc i ≤ firstFrom n found (suc i)
+          → lowestOf t (map (deltaAt v) (cond p (i ∷ those f (upFrom (suc i) n)) (those f (upFrom (suc i) n)))) ≡ cond (p && q) i (firstFrom n found (suc i))
+      go true true r ih l = simp r (omega arith)
+      go true false r ih l = simp r ih
+      go false q r ih l = ih
+
+-- a command's object: the code finds its lowest delta at j
+pub lowest-at : (h v : List ℕ) (j : Object) (m : ℕ) → m ≡ joinedMask (fields.usesScoreboard h) (fields.scoreboardMask h) (dword v 5)
+    → lowestAt (fields.positionX h) (fields.positionY h) m (dword v 6) (dword v 7) (j .x) (j .y) ≡ lowestOf (meets (objectOf h v) j) (objectOf h v .inPlay)
+unfolding lowestAt leadsAt findFirst objectOf
+lowest-at h v j m e =
+    sym (searched v (λ i. bitSet i m) (meets (objectOf h v) j) 8 0 refl)
+    ∙ ap (λ (is : List ℕ). lowestOf (meets (objectOf h v) j) (map (deltaAt v) is))
+    (ap setBits e ∙ joined-set (fields.usesScoreboard h) (fields.scoreboardMask h) (dword v 5))
+
+-- a delta below 8 is found where one leads there, and only there
+pub some-below : (f : Delta → Bool) (ds : List Delta) → ((d : Delta) → List·Memᴰ d ds → d .index < 8) → someOf f ds ≡ ltb (lowestOf f ds) 8
+some-below f ds small = go (someOf f ds) refl (ltb (lowestOf f ds) 8) refl
+  where
+    go : (a : Bool) → someOf f ds ≡ a → (b : Bool) → ltb (lowestOf f ds) 8 ≡ b → someOf f ds ≡ ltb (lowestOf f ds) 8
+    go true p b q =
+        let o = some-one f ds p in
+        p ∙ sym (lt-ltb (lowestOf f ds) 8 (omega (arith, lowest-le f ds (o .one) (o .among) (o .holds), small (o .one) (o .among))))
+    go false p true q =
+        let o = lowest-one f ds (ltb-true (lowestOf f ds) 8 q) in
+        one-some f ds (o .found .one) (o .found .among) (o .found .holds) ∙ sym q
+    go false p false q = p ∙ sym q

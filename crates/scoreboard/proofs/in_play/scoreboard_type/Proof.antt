@@ -1,0 +1,14 @@
+use mathlib.Core.Path.{sym}
+use Rattle.laws.proofs.BitRanges.{taken}
+use Rattle.scoreboard.specs.InPlay.{typeOf}
+use Rattle.scoreboard.proofs.in_play.scoreboard_type.Statement.{statement}
+use Rattle.scoreboard.proofs.in_play.scoreboard_type.Tie as tie
+use Rattle.scoreboard.proofs.in_play.scoreboard_type.Reads as reads
+use Rattle.scoreboard.proofs.in_play.scoreboard_type.Lts as lts
+
+returns : tie.Need-returns
+unfolding typeOf
+returns c = sym (taken 30 30 (c .args .vfe-dword-5))
+
+pub scoreboard-type-spec : {M : Type 1} → statement M
+scoreboard-type-spec = tie.close (tie.spec returns)
