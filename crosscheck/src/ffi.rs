@@ -82,3 +82,15 @@ pub fn check_batch_dwords(batch: &[u32], capacity: u32, records: &mut [u32]) -> 
     }
     .into()
 }
+
+/// Both entries with nothing lent: null pointers, which are allowed at length 0.
+pub fn check_nothing(capacity: u32) -> [Answer; 2] {
+    use std::ptr::{null, null_mut};
+    // SAFETY: a pointer of length 0 is not used.
+    unsafe {
+        [
+            mpl_check_batch(null(), 0, capacity, null_mut(), 0).into(),
+            mpl_check_batch_dwords(null(), 0, capacity, null_mut(), 0).into(),
+        ]
+    }
+}

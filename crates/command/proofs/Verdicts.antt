@@ -35,7 +35,7 @@ module _ (h : List ℕ) (st : State) where
       masked 1 0x0000_03f0
       ∷ masked 3 0x0000_00ff
       ∷ masked 5 0x3fff_ff00
-      ∷ row 8 0 (not (eqb (st .media) 0))
+      ∷ row 8 0 (not (eqb (st .standing) 0))
       ∷ row 9 0 (ltb (st .capacity) (bitAnd (d 2 / 256) 255 * bitAnd (d 4 / 65536) 65535 + bitAnd (d 4) 65535))
       ∷ [])
   unfolding ownVerdict

@@ -50,7 +50,7 @@ ownRows k h st =
     -- 8: "kinds 4, 5, 7 need an earlier VFE"
     ∷ row 8 0 ((isLoad k || eqb k 7) && eqb (st .configured) 0)
     -- 8: "A VFE needs that no command of kind 3, 4, 5 or 7 stands since the last MI_FLUSH or the start"
-    ∷ row 8 0 (eqb k 3 && not (eqb (st .media) 0))
+    ∷ row 8 0 (eqb k 3 && not (eqb (st .standing) 0))
     -- 8: "A descriptor load needs that no OBJECT stands since the last kind 1 or 6"
     ∷ row 8 0 (eqb k 5 && not (eqb (st .unflushed) 0))
     -- 8: "An OBJECT's index is below the count last loaded"

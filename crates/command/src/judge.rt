@@ -81,7 +81,7 @@ fn vfe(h: [u32; 8], st: State) -> Verdict
     if h[5] & MASKS[3][5] != 0 {
         return Verdict::Fault { number: 6, skip: 5 };
     }
-    if st.media != 0 {
+    if st.standing != 0 {
         return Verdict::Fault { number: 8, skip: 0 };
     }
     if st.capacity < ((h[2] >> 8) & 0xff) * ((h[4] >> 16) & 0xffff) + (h[4] & 0xffff) {

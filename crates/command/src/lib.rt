@@ -15,7 +15,7 @@ pub struct State {
     // descriptors last loaded
     pub count: u32,
     // 1 where a command of kind 3, 4, 5 or 7 stands since the last MI_FLUSH
-    pub media: u32,
+    pub standing: u32,
     // 1 where an OBJECT stands since the last MI_FLUSH or MEDIA_STATE_FLUSH
     pub unflushed: u32,
     pub commands: u32,

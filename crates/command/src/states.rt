@@ -15,7 +15,7 @@ pub fn start(capacity: u32) -> State
         vfe: 0,
         curbe: 0,
         count: 0,
-        media: 0,
+        standing: 0,
         unflushed: 0,
         commands: 0,
         objects: 0,
@@ -30,13 +30,13 @@ pub fn after(k: u32, h: [u32; 8], st: State) -> State
     let mut next = st;
     next.commands = st.commands + 1;
     if k == 7 {
-        next.media = 1;
+        next.standing = 1;
         next.unflushed = 1;
         next.objects = st.objects + 1;
         return next;
     }
     if k == 1 {
-        next.media = 0;
+        next.standing = 0;
         next.unflushed = 0;
         return next;
     }
@@ -44,16 +44,16 @@ pub fn after(k: u32, h: [u32; 8], st: State) -> State
         next.configured = 1;
         next.vfe = st.commands;
         next.curbe = h[4] & 0xffff;
-        next.media = 1;
+        next.standing = 1;
         return next;
     }
     if k == 4 {
-        next.media = 1;
+        next.standing = 1;
         return next;
     }
     if k == 5 {
         next.count = (h[2] & 0x1_ffff) / 32;
-        next.media = 1;
+        next.standing = 1;
         return next;
     }
     if k == 6 {

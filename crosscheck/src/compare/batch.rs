@@ -17,6 +17,20 @@ pub fn run(plan: &Plan, report: &mut Report) {
     if plan.only.is_none() {
         dwords.print(report);
         bytes.print(report);
+        report.case(nothing());
+    }
+}
+
+/// Null pointers at length 0: an empty batch, which is used up at once.
+fn nothing() -> Result<(), String> {
+    let answers = ffi::check_nothing(0);
+    let expected = Answer::refused(2, 0);
+    if answers == [expected; 2] {
+        Ok(())
+    } else {
+        Err(format!(
+            "nothing lent: library {answers:?}, expected {expected:?}"
+        ))
     }
 }
 
