@@ -1,7 +1,7 @@
 -- What acceptance says of a batch. Assumes nothing.
 use mathlib.Core.Path.{_≡_, refl, sym, ap, ap₂, subst, _∙_}
 use mathlib.Core.Bool.{Bool, true, false, cond}
-use mathlib.Core.Logic.{inl, inr}
+use mathlib.Core.Logic.{inr}
 use Prim.Native.Nat.{ℕ, zero, suc, _+_, _-_, _*_, _/_, _%_, _<_, _≤_}
 use native.Mathlib.Omega.{arith}
 use mathlib.Core.List.{List, [], _∷_}
@@ -13,14 +13,14 @@ use Rattle.words.proofs.Dwords.{length-dwords}
 use Rattle.command.specs.declared.State.{State}
 use Rattle.command.specs.declared.Verdict.{Verdict}
 use Rattle.command.specs.declared.Verdict.the-variants.{Fault, Passed}
-use Rattle.command.specs.Kinds.{kindOf, totalOf, headOf}
+use Rattle.command.specs.Kinds.{kindOf}
 use Rattle.command.specs.Order.{Command, stateOf, stateAfter}
 use Rattle.command.specs.Refusals.{judgeOf}
 use Rattle.command.proofs.Judged.{fault-number}
 use Rattle.batch.specs.declared.Answer.{Answer}
 use Rattle.batch.specs.Reading.{Stop, ended, stopped, Reading, reading, andThen, commandAt, onward, readingOf}
 use Rattle.batch.specs.Records.{written}
-use Rattle.batch.specs.Unread.{Inline, AfterEnd, Unread}
+use Rattle.batch.specs.Unread.{AfterEnd, Unread}
 use Rattle.batch.specs.Answers.{atStop, decided, refusedAnswer, acceptedAnswer, recordedIn, answerOf, recordsOf, bytesAnswerOf}
 use Rattle.batch.proofs.Walk.{walk, reading-walk}
 use Rattle.batch.proofs.Same.{same-reading}

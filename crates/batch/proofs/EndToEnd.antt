@@ -1,7 +1,7 @@
 -- A batch read to its END is its commands laid end to end. Assumes nothing.
 use mathlib.Core.Path.{_≡_, refl, sym, ap, subst, _∙_}
 use mathlib.Core.Bool.{Bool, true, false, cond}
-use Prim.Native.Nat.{ℕ, zero, suc, _+_, _-_, _<_, _≤_}
+use Prim.Native.Nat.{ℕ, zero, suc, _+_, _-_, _≤_}
 use native.Mathlib.Nat.{add-zero}
 use native.Mathlib.Omega.{arith}
 use mathlib.Core.List.{List, [], _∷_}
@@ -16,7 +16,7 @@ use Rattle.command.specs.Kinds.{kindOf, lengthField, lengthAllowed, totalOf, he
 use Rattle.command.specs.Order.{Command, stateOf, stateAfter}
 use Rattle.command.specs.Refusals.{headerVerdict, judgeOf}
 use Rattle.command.proofs.Judged.{total-pos, passed-header, passed-known, passed-length}
-use Rattle.batch.specs.Reading.{Stop, ended, stopped, Reading, reading, andThen, commandAt, onward, readingOf}
+use Rattle.batch.specs.Reading.{ended, stopped, Reading, reading, andThen, commandAt, onward, readingOf}
 use Rattle.batch.specs.Answers.{answerOf, acceptedAnswer}
 use Rattle.batch.specs.EndToEnd.{Stands, EndToEnd}
 use Rattle.batch.proofs.Walk.{walk, reading-walk, passes-in}

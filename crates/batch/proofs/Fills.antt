@@ -1,9 +1,9 @@
 -- What a turn of the second pass shows: the commands still to be read, over what is written so far. Assumes nothing.
 use mathlib.Core.Path.{_≡_, refl, sym, ap, ap₂, subst, _∙_}
 use mathlib.Core.Bool.{Bool, true, false, cond}
-use Prim.Native.Nat.{ℕ, suc, _+_, _-_, _*_, _<_, _≤_}
+use Prim.Native.Nat.{ℕ, _+_, _-_, _*_, _<_, _≤_}
 use native.Mathlib.Omega.{arith}
-use mathlib.Core.List.{List, [], _∷_}
+use mathlib.Core.List.{List, []}
 use lib.ListN.{length, getD, drop}
 use lib.Seq.{drop-drop}
 use lib.Dec.{eqb}
@@ -12,7 +12,7 @@ use Rattle.command.specs.declared.State.{State}
 use Rattle.command.specs.declared.Verdict.{Verdict}
 use Rattle.command.specs.declared.Verdict.the-variants.{Fault, Passed}
 use Rattle.command.specs.Kinds.{kindOf, totalOf, headOf, ownDwords}
-use Rattle.command.specs.Order.{Command, commandOf, stateOf, stateAfter}
+use Rattle.command.specs.Order.{commandOf, stateOf, stateAfter}
 use Rattle.command.specs.Record.{recordOf}
 use Rattle.command.specs.Refusals.{headerVerdict, judgeOf}
 use Rattle.command.proofs.Judged.{passed-header, own-fits-left}
@@ -22,7 +22,7 @@ use Rattle.batch.specs.declared.Onward.{Onward}
 use Rattle.batch.specs.declared.Onward.the-variants.{End, Then}
 use Rattle.batch.specs.declared.Turn.{Turn}
 use Rattle.batch.specs.declared.Turn.the-variants.{Refused, Last, Next}
-use Rattle.batch.specs.Reading.{Stop, ended, Whole, Reading, reading, andThen, readingOf}
+use Rattle.batch.specs.Reading.{Whole, Reading, andThen, readingOf}
 use Rattle.batch.specs.Records.{putWords, written}
 use Rattle.batch.specs.Answers.{recorded}
 use Rattle.batch.specs.Turns.{turned, turnOf, here, Passes, onwardOf}

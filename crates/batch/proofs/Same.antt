@@ -17,8 +17,8 @@ use Rattle.command.specs.Order.{Command, commandOf, stateOf, stateAfter}
 use Rattle.command.specs.Refusals.{judgeOf}
 use Rattle.command.proofs.Heads.{own-pos, own-object, own-end, head-same}
 use Rattle.command.proofs.Judged.{own-in-total, passed-header, total-pos}
-use Rattle.batch.specs.Reading.{Stop, ended, stopped, Reading, reading, andThen, commandAt, onward, readingOf}
-use Rattle.batch.specs.Unread.{InlineData, Inline, AfterEnd, Unread}
+use Rattle.batch.specs.Reading.{ended, Reading, reading, andThen, commandAt, onward, readingOf}
+use Rattle.batch.specs.Unread.{InlineData, Unread}
 use Rattle.batch.proofs.Walk.{walk, reading-walk}
 
 -- what is unread of a reading after one command more

@@ -1,5 +1,5 @@
 -- What a turn of the first pass shows: the answer that is left, and what the next turn starts from. Assumes nothing.
-use mathlib.Core.Path.{_≡_, refl, sym, ap, ap₂, subst, _∙_}
+use mathlib.Core.Path.{_≡_, refl, sym, ap, subst, _∙_}
 use mathlib.Core.Bool.{Bool, true, false, cond}
 use Prim.Native.Nat.{ℕ, suc, _+_, _-_, _<_, _≤_}
 use native.Mathlib.Omega.{arith}
@@ -19,7 +19,7 @@ use Rattle.batch.specs.declared.Scanned.{Scanned}
 use Rattle.batch.specs.declared.Scanned.the-variants.{Stopped, Ended}
 use Rattle.batch.specs.declared.Turn.{Turn}
 use Rattle.batch.specs.declared.Turn.the-variants.{Refused, Last, Next}
-use Rattle.batch.specs.Reading.{Stop, Reading, readingOf}
+use Rattle.batch.specs.Reading.{Reading, readingOf}
 use Rattle.batch.specs.Answers.{scanned, scanOf}
 use Rattle.batch.specs.Turns.{turned, turnOf}
 use Rattle.batch.proofs.Walk.{walk, reading-walk, then, turn-at, walk-end, passes-in}

@@ -1,21 +1,21 @@
 -- The record buffer word by word: word f of record i stands at `slot i f`, and every other word is as it was. Assumes nothing.
 use mathlib.Core.Logic.{_≢_}
 use mathlib.Core.Path.{_≡_, refl, sym, ap, subst, _∙_}
-use mathlib.Core.Bool.{Bool, true, false, cond}
+use mathlib.Core.Bool.{Bool, true, false}
 use Prim.Native.Nat.{ℕ, zero, suc, _+_, _*_, _/_, _%_, _^_, _<_, _≤_}
 use native.Mathlib.Omega.{arith}
 use mathlib.Core.List.{List, [], _∷_}
 use lib.ListN.{length, getD, set, length-set}
 use lib.Seq.{getD-set-same, getD-set-other}
-use lib.Dec.{eqb, ltb}
+use lib.Dec.{eqb}
 use borrow.Author.Tests.{eq-eqb, eqb-true, eqb-false, le-ltb}
 use Rattle.words.specs.Dwords.{leAt, dwordsOf, putLe}
 use Rattle.words.proofs.Dwords.{length-dwords, length-put, put-other, put-apart, put-same}
 use Rattle.command.specs.Order.{Command}
 use Rattle.command.specs.Record.{recordOf}
-use Rattle.batch.specs.Reading.{Stop, ended, readingOf}
+use Rattle.batch.specs.Reading.{readingOf}
 use Rattle.batch.specs.Records.{slot, putWords, written}
-use Rattle.batch.specs.Answers.{atStop, decided, acceptedAnswer, recorded, recordedIn, answerOf, recordsOf, bytesAnswerOf, bytesRecordsOf}
+use Rattle.batch.specs.Answers.{decided, acceptedAnswer, recorded, recordedIn, answerOf, recordsOf, bytesAnswerOf, bytesRecordsOf}
 use Rattle.batch.proofs.Acceptance.{accepted-ends, accepted-commands, accepted-room, accepted-length, bytes-even, bytes-accepted-as}
 
 by-eq : {C : Type 0} (a b : ℕ) → (a ≡ b → C) → (a ≢ b → C) → C

@@ -1,5 +1,5 @@
 -- The turn at a place of a batch, from the dwords that the code read there. Assumes nothing.
-use mathlib.Core.Path.{_≡_, refl, sym, ap, ap₂, subst, _∙_}
+use mathlib.Core.Path.{_≡_, sym, ap, ap₂, _∙_}
 use mathlib.Core.Bool.{cond}
 use Prim.Native.Nat.{ℕ, _+_, _-_, _<_, _≤_}
 use native.Mathlib.Nat.{add-zero}
@@ -16,7 +16,6 @@ use Rattle.command.specs.Kinds.{kindOf, totalOf, headOf, ownDwords}
 use Rattle.command.specs.Order.{stateAfter}
 use Rattle.command.specs.Refusals.{headerVerdict, ownVerdict, judgeOf}
 use Rattle.command.proofs.Judged.{judge-own, judge-header, own-fits-left}
-use Rattle.batch.specs.declared.Turn.{Turn}
 use Rattle.batch.specs.declared.Turn.the-variants.{Refused, Last, Next}
 use Rattle.batch.specs.Turns.{turned, turnOf}
 

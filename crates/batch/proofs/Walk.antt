@@ -1,24 +1,24 @@
 -- The reading turn by turn: with what the commands before have set in place of their list, and from a place of the batch on. Assumes nothing.
-use mathlib.Core.Path.{_≡_, refl, sym, ap, ap₂, subst, _∙_}
+use mathlib.Core.Path.{_≡_, refl, sym, ap, subst, _∙_}
 use mathlib.Core.Bool.{Bool, true, false, cond}
-use Prim.Native.Nat.{ℕ, zero, suc, _+_, _-_, _*_, _<_, _≤_}
+use Prim.Native.Nat.{ℕ, zero, suc, _+_, _-_, _<_, _≤_}
 use native.Mathlib.Nat.{add-zero}
 use native.Mathlib.Omega.{arith}
 use mathlib.Core.List.{List, [], _∷_}
-use lib.ListN.{length, getD, drop, length-drop, drop-of-length-le}
-use lib.Seq.{drop-cons, drop-drop}
+use lib.ListN.{length, getD, drop, drop-of-length-le}
+use lib.Seq.{drop-cons}
 use lib.Dec.{eqb}
 use Rattle.command.specs.declared.State.{State}
 use Rattle.command.specs.declared.Verdict.{Verdict}
 use Rattle.command.specs.declared.Verdict.the-variants.{Fault, Passed}
 use Rattle.command.specs.Kinds.{kindOf, totalOf, headOf}
-use Rattle.command.specs.Order.{Command, commandOf, stateOf, stateAfter}
+use Rattle.command.specs.Order.{Command, stateOf, stateAfter}
 use Rattle.command.specs.Refusals.{judgeOf}
 use Rattle.command.proofs.Order.{state-after}
-use Rattle.command.proofs.Judged.{never, passed-header, passed-fits, total-pos}
+use Rattle.command.proofs.Judged.{passed-header, passed-fits, total-pos}
 use Rattle.batch.specs.declared.Turn.{Turn}
 use Rattle.batch.specs.declared.Turn.the-variants.{Refused, Last, Next}
-use Rattle.batch.specs.Reading.{Stop, ended, stopped, Whole, Reading, reading, andThen, commandAt, onward, read, readingOf}
+use Rattle.batch.specs.Reading.{ended, stopped, Reading, reading, andThen, commandAt, onward, read, readingOf}
 use Rattle.batch.specs.Turns.{turned, turnOf, here}
 
 -- `read`, with the state in place of the list of commands before

@@ -1,11 +1,11 @@
 -- Rows 3 to 5, then rows 6 to 9; and what a command that passes keeps to. Assumes nothing.
-use mathlib.Core.Path.{_≡_, refl, sym, ap, subst, _∙_}
+use mathlib.Core.Path.{_≡_, refl, sym, subst, _∙_}
 use mathlib.Core.Bool.{Bool, true, false, cond, not, _&&_}
-use Prim.Native.Nat.{ℕ, zero, suc, _+_, _≤_, _<_}
+use Prim.Native.Nat.{ℕ, zero, suc, _+_, _≤_}
 use native.Mathlib.Omega.{arith}
 use mathlib.Core.List.{List, [], _∷_, _++_}
-use lib.Dec.{T, eqb, ltb, leb}
-use borrow.Author.Tests.{ltb-false, ltb-true, leb-true, eqb-true, eqb-false, eq-eqb, ne-eqb, le-ltb, not-false}
+use lib.Dec.{T, eqb, ltb}
+use borrow.Author.Tests.{ltb-false, leb-true, eqb-true, eqb-false, eq-eqb, ne-eqb, le-ltb, not-false}
 use Rattle.laws.specs.Rows.{Row, firstRow}
 use Rattle.laws.proofs.Tests.{both-left, both-right}
 use Rattle.command.specs.declared.State.{State}

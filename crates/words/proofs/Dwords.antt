@@ -5,9 +5,9 @@ use native.Mathlib.Nat.{mod-eq-of-lt, div-add-mod'}
 use native.Mathlib.Omega.{arith}
 use mathlib.Core.List.{List, [], _∷_}
 use lib.ListN.{length, getD, set, length-set}
-use lib.Seq.{getD-set-same, getD-set-other}
+use lib.Seq.{getD-set-other}
 use mathlib.Core.Logic.{_≢_}
-use Rattle.words.specs.Dwords.{leAt, dwordsOf, dwordsIn, putLe, Buffer, buffer, stored, putIn}
+use Rattle.words.specs.Dwords.{leAt, dwordsOf, dwordsIn, putLe, buffer, stored}
 
 pub length-dwords : (l : List ℕ) → length (dwordsOf l) ≡ length l / 4
 unfolding dwordsOf

@@ -2,13 +2,6 @@ use Rattle.batch.proofs.Turns.{turns, own-there}
 use borrow.Author.Needs.{needs}
 use Rattle.batch.proofs.advance_as.Statement.{statement}
 use Rattle.batch.proofs.advance_as.Tie as tie
-use Rattle.batch.proofs.advance_as.Reads as reads
-use Rattle.batch.proofs.advance_as.Lts as lts
-use Rattle.command.proofs.head.own_dwords.Reads as own-dwords-reads
-use Rattle.command.proofs.head.total.Reads as total-reads
-use Rattle.command.proofs.judge.header_verdict.Reads as header-verdict-reads
-use Rattle.command.proofs.judge.own_verdict.Reads as own-verdict-reads
-use Rattle.command.proofs.states.after.Reads as after-reads
 
 sub-header-verdict : tie.Need-sub-header-verdict
 sub-header-verdict c = search needs

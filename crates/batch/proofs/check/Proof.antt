@@ -2,12 +2,6 @@ use Rattle.batch.proofs.Decisions.{fits, dwords-room, dwords-laws}
 use borrow.Author.Needs.{needs}
 use Rattle.batch.proofs.check.Statement.{statement}
 use Rattle.batch.proofs.check.Tie as tie
-use Rattle.batch.proofs.check.Reads as reads
-use Rattle.batch.proofs.check.Lts as lts
-use Rattle.batch.proofs.accepted.Reads as accepted-reads
-use Rattle.batch.proofs.decide.Reads as decide-reads
-use Rattle.batch.proofs.fill.Reads as fill-reads
-use Rattle.batch.proofs.refused.Reads as refused-reads
 
 slice-aggregate-decide : tie.Need-slice-aggregate-decide
 slice-aggregate-decide c = search needs

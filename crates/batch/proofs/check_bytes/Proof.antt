@@ -2,12 +2,6 @@ use Rattle.batch.proofs.Decisions.{fits, bytes-room, bytes-refused, byt
 use borrow.Author.Needs.{needs}
 use Rattle.batch.proofs.check_bytes.Statement.{statement}
 use Rattle.batch.proofs.check_bytes.Tie as tie
-use Rattle.batch.proofs.check_bytes.Reads as reads
-use Rattle.batch.proofs.check_bytes.Lts as lts
-use Rattle.batch.proofs.accepted.Reads as accepted-reads
-use Rattle.batch.proofs.decide.Reads as decide-reads
-use Rattle.batch.proofs.fill.Reads as fill-reads
-use Rattle.batch.proofs.refused.Reads as refused-reads
 
 refused-requires : tie.Need-refused-requires
 refused-requires c κs = search needs

@@ -1,12 +1,7 @@
-use native.Mathlib.Omega.{arith}
 use Rattle.batch.proofs.Decisions.{decisions}
 use borrow.Author.Needs.{needs}
 use Rattle.batch.proofs.decide.Statement.{statement}
 use Rattle.batch.proofs.decide.Tie as tie
-use Rattle.batch.proofs.decide.Reads as reads
-use Rattle.batch.proofs.decide.Lts as lts
-use Rattle.batch.proofs.scan.Reads as scan-reads
-use Rattle.words.proofs.held.Reads as held-reads
 
 held-requires : tie.Need-held-requires
 held-requires c κs = search needs

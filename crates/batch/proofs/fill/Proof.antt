@@ -1,4 +1,4 @@
-use Prim.Native.Nat.{ℕ, _+_, _≤_, _-_}
+use Prim.Native.Nat.{_+_, _≤_, _-_}
 use mathlib.Core.Path.{_≡_, refl}
 use borrow.Author.Needs.{needs}
 use lib.ListN.{length, set, drop}
@@ -11,11 +11,6 @@ use Rattle.batch.proofs.Scans.{start-laws}
 use Rattle.batch.proofs.Fills.{fill-laws, fill-commands, fill-objects, fill-room, record-laws}
 use Rattle.batch.proofs.fill.Statement.{statement}
 use Rattle.batch.proofs.fill.Tie as tie
-use Rattle.batch.proofs.fill.Reads as reads
-use Rattle.batch.proofs.fill.Lts as lts
-use Rattle.batch.proofs.record_at.Reads as record-at-reads
-use Rattle.command.proofs.states.start.Reads as start-reads
-use Rattle.words.proofs.held.Reads as held-reads
 
 abbrev Inv-loop : tie.InvT-loop
 Inv-loop dw by capacity rd₀ rb₀ len at₀ st₀ rd rb at st =

@@ -1,6 +1,5 @@
-use Prim.Native.Nat.{ℕ, _≤_, _-_}
+use Prim.Native.Nat.{_≤_, _-_}
 use mathlib.Core.Path.{_≡_, refl}
-use native.Mathlib.Omega.{arith}
 use lib.ListN.{length, set}
 use borrow.Author.Needs.{needs}
 use Rattle.words.specs.Dwords.{dwordsIn, buffer, putIn}
@@ -8,10 +7,6 @@ use Rattle.batch.specs.Records.{putWords}
 use Rattle.batch.proofs.RecordWords.{words-laws, slot-there}
 use Rattle.batch.proofs.put.Statement.{statement}
 use Rattle.batch.proofs.put.Tie as tie
-use Rattle.batch.proofs.put.Reads as reads
-use Rattle.batch.proofs.put.Lts as lts
-use Rattle.batch.proofs.slot_of.Reads as slot-of-reads
-use Rattle.words.proofs.store_in.Reads as store-in-reads
 
 abbrev Inv-loop : tie.InvT-loop
 Inv-loop rd₀ rb₀ i w f₀ rd rb f = (f ≤ 16) × (length rd ≡ length rd₀) × (length rb ≡ length rb₀) × (buffer rd rb ≡ putWords putIn (buffer rd₀ rb₀) i w f) × (dwordsIn rd rb ≡ putWords set (dwordsIn rd₀ rb₀) i w f)

@@ -2,13 +2,6 @@ use Rattle.batch.proofs.Fills.{own-passed, onward-laws}
 use borrow.Author.Needs.{needs}
 use Rattle.batch.proofs.record_as.Statement.{statement}
 use Rattle.batch.proofs.record_as.Tie as tie
-use Rattle.batch.proofs.record_as.Reads as reads
-use Rattle.batch.proofs.record_as.Lts as lts
-use Rattle.batch.proofs.put.Reads as put-reads
-use Rattle.command.proofs.head.own_dwords.Reads as own-dwords-reads
-use Rattle.command.proofs.head.total.Reads as total-reads
-use Rattle.command.proofs.records.words.Reads as words-reads
-use Rattle.command.proofs.states.after.Reads as after-reads
 
 total-requires : tie.Need-total-requires
 total-requires c κs = search needs

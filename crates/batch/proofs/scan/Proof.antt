@@ -1,4 +1,4 @@
-use Prim.Native.Nat.{ℕ, _≤_, _-_}
+use Prim.Native.Nat.{_≤_, _-_}
 use mathlib.Core.Path.{_≡_}
 use borrow.Author.Needs.{needs}
 use lib.ListN.{length, drop}
@@ -8,11 +8,6 @@ use Rattle.batch.proofs.Walk.{walk}
 use Rattle.batch.proofs.Scans.{told, start-laws, told-laws, next-laws}
 use Rattle.batch.proofs.scan.Statement.{statement}
 use Rattle.batch.proofs.scan.Tie as tie
-use Rattle.batch.proofs.scan.Reads as reads
-use Rattle.batch.proofs.scan.Lts as lts
-use Rattle.batch.proofs.advance.Reads as advance-reads
-use Rattle.command.proofs.states.start.Reads as start-reads
-use Rattle.words.proofs.held.Reads as held-reads
 
 abbrev Inv-loop : tie.InvT-loop
 Inv-loop dw by capacity len at₀ st₀ at st =

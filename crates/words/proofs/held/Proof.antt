@@ -1,8 +1,6 @@
 use Rattle.words.proofs.Dwords.{source}
 use Rattle.words.proofs.held.Statement.{statement}
 use Rattle.words.proofs.held.Tie as tie
-use Rattle.words.proofs.held.Reads as reads
-use Rattle.words.proofs.held.Lts as lts
 
 returns : tie.Need-returns
 returns c = search source

@@ -2,8 +2,6 @@ use lib.ListN.{length-set}
 use borrow.Author.Needs.{needs}
 use Rattle.words.proofs.store.Statement.{statement}
 use Rattle.words.proofs.store.Tie as tie
-use Rattle.words.proofs.store.Reads as reads
-use Rattle.words.proofs.store.Lts as lts
 
 cast-by : tie.Need-cast-by
 cast-by c = search needs

@@ -3,9 +3,6 @@ use Rattle.words.proofs.Dwords.{source}
 use native.Mathlib.Omega.{arith}
 use Rattle.words.proofs.word.Statement.{statement}
 use Rattle.words.proofs.word.Tie as tie
-use Rattle.words.proofs.word.Reads as reads
-use Rattle.words.proofs.word.Lts as lts
-use Rattle.words.proofs.le.Reads as le-reads
 
 mul-result : tie.Need-mul-result
 mul-result c = omega (arith, index-dwords _ _ _ (c .if1 .taken) (c .before .before .before .pre))

@@ -4,19 +4,13 @@ use Rattle.command.specs.Kinds.{headOf, ownDwords}
 use borrow.Author.Needs.{needs}
 use Rattle.command.proofs.head.flush_dwords.Statement.{statement}
 use Rattle.command.proofs.head.flush_dwords.Tie as tie
-use Rattle.command.proofs.head.flush_dwords.Reads as reads
-use Rattle.command.proofs.head.flush_dwords.Lts as lts
-use Rattle.words.proofs.word.Reads as word-reads
 
--- src/head.rt:105:22
 add-word : tie.Need-add-word
 add-word c = search needs
 
--- src/head.rt:105:9
 word-requires : tie.Need-word-requires
 word-requires c κs = search needs
 
--- src/head.rt:101:1
 returns : tie.Need-returns
 unfolding headOf ownDwords
 returns c = simp (getD-drop, add-zero, ← c .word .ensures, ← c .before .before .before .pre .2)

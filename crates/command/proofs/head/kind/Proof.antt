@@ -5,8 +5,6 @@ use Rattle.command.proofs.Heads.{object-kind}
 use native.Mathlib.Omega.{arith}
 use Rattle.command.proofs.head.kind.Statement.{statement}
 use Rattle.command.proofs.head.kind.Tie as tie
-use Rattle.command.proofs.head.kind.Reads as reads
-use Rattle.command.proofs.head.kind.Lts as lts
 
 returns : tie.Need-returns
 returns c = object-kind _ (c .if1 .taken)

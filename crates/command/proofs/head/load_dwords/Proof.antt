@@ -4,35 +4,25 @@ use Rattle.command.specs.Kinds.{headOf, ownDwords}
 use borrow.Author.Needs.{needs}
 use Rattle.command.proofs.head.load_dwords.Statement.{statement}
 use Rattle.command.proofs.head.load_dwords.Tie as tie
-use Rattle.command.proofs.head.load_dwords.Reads as reads
-use Rattle.command.proofs.head.load_dwords.Lts as lts
-use Rattle.words.proofs.word.Reads as word-reads
 
--- src/head.rt:90:22
 add-word : tie.Need-add-word
 add-word c = search needs
 
--- src/head.rt:90:9
 word-requires : tie.Need-word-requires
 word-requires c κs = search needs
 
--- src/head.rt:91:22
 add-word-2 : tie.Need-add-word-2
 add-word-2 c = search needs
 
--- src/head.rt:91:9
 word-requires-2 : tie.Need-word-requires-2
 word-requires-2 c κs = search needs
 
--- src/head.rt:92:22
 add-word-3 : tie.Need-add-word-3
 add-word-3 c = search needs
 
--- src/head.rt:92:9
 word-requires-3 : tie.Need-word-requires-3
 word-requires-3 c κs = search needs
 
--- src/head.rt:84:1
 returns : tie.Need-returns
 unfolding headOf ownDwords
 returns c = simp (getD-drop, add-zero, ← c .before .before .word .ensures, ← c .before .word2 .ensures, ← c .word3 .ensures, ← c .before .before .before .before .before .pre .2)

@@ -4,51 +4,37 @@ use Rattle.command.specs.Kinds.{headOf, ownDwords}
 use borrow.Author.Needs.{needs}
 use Rattle.command.proofs.head.object_dwords.Statement.{statement}
 use Rattle.command.proofs.head.object_dwords.Tie as tie
-use Rattle.command.proofs.head.object_dwords.Reads as reads
-use Rattle.command.proofs.head.object_dwords.Lts as lts
-use Rattle.words.proofs.word.Reads as word-reads
 
--- src/head.rt:56:22
 add-word : tie.Need-add-word
 add-word c = search needs
 
--- src/head.rt:56:9
 word-requires : tie.Need-word-requires
 word-requires c κs = search needs
 
--- src/head.rt:57:22
 add-word-2 : tie.Need-add-word-2
 add-word-2 c = search needs
 
--- src/head.rt:57:9
 word-requires-2 : tie.Need-word-requires-2
 word-requires-2 c κs = search needs
 
--- src/head.rt:58:22
 add-word-3 : tie.Need-add-word-3
 add-word-3 c = search needs
 
--- src/head.rt:58:9
 word-requires-3 : tie.Need-word-requires-3
 word-requires-3 c κs = search needs
 
--- src/head.rt:59:22
 add-word-4 : tie.Need-add-word-4
 add-word-4 c = search needs
 
--- src/head.rt:59:9
 word-requires-4 : tie.Need-word-requires-4
 word-requires-4 c κs = search needs
 
--- src/head.rt:60:22
 add-word-5 : tie.Need-add-word-5
 add-word-5 c = search needs
 
--- src/head.rt:60:9
 word-requires-5 : tie.Need-word-requires-5
 word-requires-5 c κs = search needs
 
--- src/head.rt:50:1
 returns : tie.Need-returns
 unfolding headOf ownDwords
 returns c = simp (getD-drop, add-zero, ← c .before .before .before .before .word .ensures, ← c .before .before .before .word2 .ensures, ← c .before .before .word3 .ensures, ← c .before .word4 .ensures, ← c .word5 .ensures, ← c .before .before .before .before .before .before .before .pre .2)

@@ -10,59 +10,42 @@ use Rattle.command.proofs.Tests.{tests}
 use Rattle.command.proofs.Heads.{own-fits, five-as-four}
 use Rattle.command.proofs.head.own_dwords.Statement.{statement}
 use Rattle.command.proofs.head.own_dwords.Tie as tie
-use Rattle.command.proofs.head.own_dwords.Reads as reads
-use Rattle.command.proofs.head.own_dwords.Lts as lts
-use Rattle.command.proofs.head.flush_dwords.Reads as flush-dwords-reads
-use Rattle.command.proofs.head.load_dwords.Reads as load-dwords-reads
-use Rattle.command.proofs.head.object_dwords.Reads as object-dwords-reads
-use Rattle.command.proofs.head.vfe_dwords.Reads as vfe-dwords-reads
 
--- src/head.rt:114:9
 object-dwords-requires : tie.Need-object-dwords-requires
 unfolding ownDwords
 object-dwords-requires c κs = (own-fits _ 7 6 _ _ refl (c .if1 .taken) (c .before .before .before .pre .0), search needs, search needs)
 
--- src/head.rt:114:9
 returns : tie.Need-returns
 returns c = cc
 
--- src/head.rt:117:9
 vfe-dwords-requires : tie.Need-vfe-dwords-requires
 unfolding ownDwords
 vfe-dwords-requires c κs = (own-fits _ 3 8 _ _ refl (c .if2 .taken) (c .before .before .before .before .pre .0), search needs, search needs)
 
--- src/head.rt:117:9
 returns-2 : tie.Need-returns-2
 returns-2 c = cc
 
--- src/head.rt:120:9
 load-dwords-requires : tie.Need-load-dwords-requires
 unfolding ownDwords
 load-dwords-requires c κs = (own-fits _ 4 4 _ _ refl (c .if3 .taken) (c .before .before .before .before .before .pre .0), search needs, search needs)
 
--- src/head.rt:120:9
 returns-3 : tie.Need-returns-3
 returns-3 c = cc
 
--- src/head.rt:123:9
 load-dwords-requires-2 : tie.Need-load-dwords-requires-2
 unfolding ownDwords
 load-dwords-requires-2 c κs = (own-fits _ 5 4 _ _ refl (c .if4 .taken) (c .before .before .before .before .before .before .pre .0), search needs, search needs)
 
--- src/head.rt:123:9
 returns-4 : tie.Need-returns-4
 returns-4 c = cc (five-as-four (drop (c .before .before .before .before .before .before .before .args .at) (dwordsIn (c .before .before .before .before .before .before .before .args .dw .now) (c .before .before .before .before .before .before .before .args .by .now))))
 
--- src/head.rt:126:9
 flush-dwords-requires : tie.Need-flush-dwords-requires
 unfolding ownDwords
 flush-dwords-requires c κs = (own-fits _ 6 2 _ _ refl (c .if5 .taken) (c .before .before .before .before .before .before .before .pre .0), search needs, search needs)
 
--- src/head.rt:126:9
 returns-5 : tie.Need-returns-5
 returns-5 c = cc
 
--- src/head.rt:109:1
 returns-6 : tie.Need-returns-6
 unfolding headOf ownDwords
 returns-6 c = simp (getD-drop, add-zero, ← c .before .before .before .before .before .before .before .pre .2) (search (tests, arith))

@@ -5,19 +5,14 @@ use Rattle.command.proofs.Tests.{tests}
 use native.Mathlib.Omega.{arith}
 use Rattle.command.proofs.head.total.Statement.{statement}
 use Rattle.command.proofs.head.total.Tie as tie
-use Rattle.command.proofs.head.total.Reads as reads
-use Rattle.command.proofs.head.total.Lts as lts
 
--- src/head.rt:35:9
 returns : tie.Need-returns
 unfolding totalOf
 returns c = rw taken-low (search (tests, arith))
 
--- src/head.rt:37:5
 add-result : tie.Need-add-result
 add-result c = omega (arith, and-le-r (c .before .args .d) 65535)
 
--- src/head.rt:31:1
 returns-2 : tie.Need-returns-2
 unfolding totalOf
 returns-2 c = rw taken-low (search (tests, arith))

@@ -4,67 +4,49 @@ use Rattle.command.specs.Kinds.{headOf, ownDwords}
 use borrow.Author.Needs.{needs}
 use Rattle.command.proofs.head.vfe_dwords.Statement.{statement}
 use Rattle.command.proofs.head.vfe_dwords.Tie as tie
-use Rattle.command.proofs.head.vfe_dwords.Reads as reads
-use Rattle.command.proofs.head.vfe_dwords.Lts as lts
-use Rattle.words.proofs.word.Reads as word-reads
 
--- src/head.rt:73:22
 add-word : tie.Need-add-word
 add-word c = search needs
 
--- src/head.rt:73:9
 word-requires : tie.Need-word-requires
 word-requires c κs = search needs
 
--- src/head.rt:74:22
 add-word-2 : tie.Need-add-word-2
 add-word-2 c = search needs
 
--- src/head.rt:74:9
 word-requires-2 : tie.Need-word-requires-2
 word-requires-2 c κs = search needs
 
--- src/head.rt:75:22
 add-word-3 : tie.Need-add-word-3
 add-word-3 c = search needs
 
--- src/head.rt:75:9
 word-requires-3 : tie.Need-word-requires-3
 word-requires-3 c κs = search needs
 
--- src/head.rt:76:22
 add-word-4 : tie.Need-add-word-4
 add-word-4 c = search needs
 
--- src/head.rt:76:9
 word-requires-4 : tie.Need-word-requires-4
 word-requires-4 c κs = search needs
 
--- src/head.rt:77:22
 add-word-5 : tie.Need-add-word-5
 add-word-5 c = search needs
 
--- src/head.rt:77:9
 word-requires-5 : tie.Need-word-requires-5
 word-requires-5 c κs = search needs
 
--- src/head.rt:78:22
 add-word-6 : tie.Need-add-word-6
 add-word-6 c = search needs
 
--- src/head.rt:78:9
 word-requires-6 : tie.Need-word-requires-6
 word-requires-6 c κs = search needs
 
--- src/head.rt:79:22
 add-word-7 : tie.Need-add-word-7
 add-word-7 c = search needs
 
--- src/head.rt:79:9
 word-requires-7 : tie.Need-word-requires-7
 word-requires-7 c κs = search needs
 
--- src/head.rt:67:1
 returns : tie.Need-returns
 unfolding headOf ownDwords
 returns c = simp (getD-drop, add-zero, ← c .before .before .before .before .before .before .word .ensures, ← c .before .before .before .before .before .word2 .ensures, ← c .before .before .before .before .word3 .ensures, ← c .before .before .before .word4 .ensures, ← c .before .before .word5 .ensures, ← c .before .word6 .ensures, ← c .word7 .ensures, ← c .before .before .before .before .before .before .before .before .before .pre .2)

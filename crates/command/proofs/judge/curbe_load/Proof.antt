@@ -7,8 +7,6 @@ use Rattle.command.proofs.Verdicts.{curbe-rows}
 use borrow.Author.Needs.{needs}
 use Rattle.command.proofs.judge.curbe_load.Statement.{statement}
 use Rattle.command.proofs.judge.curbe_load.Tie as tie
-use Rattle.command.proofs.judge.curbe_load.Reads as reads
-use Rattle.command.proofs.judge.curbe_load.Lts as lts
 
 array-read-if1 : tie.Need-array-read-if1
 array-read-if1 c = search needs

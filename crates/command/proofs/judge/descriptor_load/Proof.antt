@@ -4,8 +4,6 @@ use Rattle.command.proofs.Verdicts.{descriptor-rows}
 use borrow.Author.Needs.{needs}
 use Rattle.command.proofs.judge.descriptor_load.Statement.{statement}
 use Rattle.command.proofs.judge.descriptor_load.Tie as tie
-use Rattle.command.proofs.judge.descriptor_load.Reads as reads
-use Rattle.command.proofs.judge.descriptor_load.Lts as lts
 
 array-read-if1 : tie.Need-array-read-if1
 array-read-if1 c = search needs

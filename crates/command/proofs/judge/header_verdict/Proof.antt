@@ -5,39 +5,28 @@ use native.Mathlib.Omega.{arith}
 use borrow.Author.Needs.{needs}
 use Rattle.command.proofs.judge.header_verdict.Statement.{statement}
 use Rattle.command.proofs.judge.header_verdict.Tie as tie
-use Rattle.command.proofs.judge.header_verdict.Reads as reads
-use Rattle.command.proofs.judge.header_verdict.Lts as lts
-use Rattle.command.proofs.head.total.Reads as total-reads
-use Rattle.command.proofs.judge.length_allowed.Reads as length-allowed-reads
 
--- src/judge.rt:61:9
 returns : tie.Need-returns
 unfolding headerVerdict
 returns c = search (tests, arith)
 
--- src/judge.rt:63:9
 length-allowed-requires : tie.Need-length-allowed-requires
 length-allowed-requires c κs = search needs
 
--- src/judge.rt:64:9
 returns-2 : tie.Need-returns-2
 unfolding headerVerdict
 returns-2 c = simp (ne-eqb _ _ (c .before .before .if1 .left), ← c .before .length-allowed .ensures, c .if2 .taken)
 
--- src/judge.rt:66:15
 total-requires : tie.Need-total-requires
 total-requires c κs = search needs
 
--- src/judge.rt:66:15
 cast-if3 : tie.Need-cast-if3
 cast-if3 c = search needs
 
--- src/judge.rt:67:9
 returns-3 : tie.Need-returns-3
 unfolding headerVerdict
 returns-3 c = simp (ne-eqb _ _ (c .before .before .before .before .if1 .left), ← c .before .before .before .length-allowed .ensures, c .before .before .if2 .left, ← c .before .total .ensures, lt-ltb _ _ (c .if3 .taken))
 
--- src/judge.rt:57:1
 returns-4 : tie.Need-returns-4
 unfolding headerVerdict
 returns-4 c = simp (ne-eqb _ _ (c .before .before .before .before .if1 .left), ← c .before .before .before .length-allowed .ensures, c .before .before .if2 .left, ← c .before .total .ensures, le-ltb _ _ (c .if3 .left))

@@ -4,40 +4,31 @@ use Rattle.command.specs.Kinds.{lengthAllowed}
 use Rattle.command.proofs.Tests.{tests}
 use Rattle.command.proofs.judge.length_allowed.Statement.{statement}
 use Rattle.command.proofs.judge.length_allowed.Tie as tie
-use Rattle.command.proofs.judge.length_allowed.Reads as reads
-use Rattle.command.proofs.judge.length_allowed.Lts as lts
 
--- src/judge.rt:36:9
 returns : tie.Need-returns
 unfolding lengthAllowed
 returns c = rw taken-low (search (tests, arith))
 
--- src/judge.rt:39:9
 returns-2 : tie.Need-returns-2
 unfolding lengthAllowed
 returns-2 c = rw taken-low (search (tests, arith))
 
--- src/judge.rt:42:9
 returns-3 : tie.Need-returns-3
 unfolding lengthAllowed
 returns-3 c = rw taken-low (search (tests, arith))
 
--- src/judge.rt:45:9
 returns-4 : tie.Need-returns-4
 unfolding lengthAllowed
 returns-4 c = rw taken-low (search (tests, arith))
 
--- src/judge.rt:48:9
 returns-5 : tie.Need-returns-5
 unfolding lengthAllowed
 returns-5 c = rw taken-low (search (tests, arith))
 
--- src/judge.rt:51:9
 returns-6 : tie.Need-returns-6
 unfolding lengthAllowed
 returns-6 c = rw taken-low (search (tests, arith))
 
--- src/judge.rt:31:1
 returns-7 : tie.Need-returns-7
 unfolding lengthAllowed
 returns-7 c = rw taken-low (search (tests, arith))

@@ -4,8 +4,6 @@ use Rattle.command.proofs.Verdicts.{object-rows, object-early, object-u
 use borrow.Author.Needs.{needs}
 use Rattle.command.proofs.judge.object.Statement.{statement}
 use Rattle.command.proofs.judge.object.Tie as tie
-use Rattle.command.proofs.judge.object.Reads as reads
-use Rattle.command.proofs.judge.object.Lts as lts
 
 array-read-if1 : tie.Need-array-read-if1
 array-read-if1 c = search needs

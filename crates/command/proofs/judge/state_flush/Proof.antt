@@ -4,8 +4,6 @@ use Rattle.command.proofs.Verdicts.{flush-rows}
 use borrow.Author.Needs.{needs}
 use Rattle.command.proofs.judge.state_flush.Statement.{statement}
 use Rattle.command.proofs.judge.state_flush.Tie as tie
-use Rattle.command.proofs.judge.state_flush.Reads as reads
-use Rattle.command.proofs.judge.state_flush.Lts as lts
 
 array-read-if1 : tie.Need-array-read-if1
 array-read-if1 c = search needs

@@ -6,8 +6,6 @@ use Rattle.command.proofs.Verdicts.{vfe-rows}
 use borrow.Author.Needs.{needs}
 use Rattle.command.proofs.judge.vfe.Statement.{statement}
 use Rattle.command.proofs.judge.vfe.Tie as tie
-use Rattle.command.proofs.judge.vfe.Reads as reads
-use Rattle.command.proofs.judge.vfe.Lts as lts
 
 array-read-if1 : tie.Need-array-read-if1
 array-read-if1 c = search needs

@@ -4,11 +4,6 @@ use Rattle.command.proofs.Tests.{coded}
 use borrow.Author.Needs.{needs}
 use Rattle.command.proofs.records.words.Statement.{statement}
 use Rattle.command.proofs.records.words.Tie as tie
-use Rattle.command.proofs.records.words.Reads as reads
-use Rattle.command.proofs.records.words.Lts as lts
-use Rattle.command.proofs.records.object.Reads as object-reads
-use Rattle.command.proofs.records.short.Reads as short-reads
-use Rattle.command.proofs.records.vfe.Reads as vfe-reads
 
 object-requires : tie.Need-object-requires
 object-requires c κs = search needs

@@ -5,8 +5,6 @@ use lib.Bits.{and-le-r}
 use Rattle.scoreboard.proofs.Nibbles.{by-table}
 use Rattle.scoreboard.proofs.deltas.delta.Statement.{statement}
 use Rattle.scoreboard.proofs.deltas.delta.Tie as tie
-use Rattle.scoreboard.proofs.deltas.delta.Reads as reads
-use Rattle.scoreboard.proofs.deltas.delta.Lts as lts
 
 cast-result : tie.Need-cast-result
 cast-result c = omega (arith, and-le-r (c .args .n) 15)

@@ -3,8 +3,6 @@ use Rattle.command.proofs.Tests.{tests}
 use Rattle.scoreboard.specs.Deltas.{deltaDword}
 use Rattle.scoreboard.proofs.deltas.delta_dword.Statement.{statement}
 use Rattle.scoreboard.proofs.deltas.delta_dword.Tie as tie
-use Rattle.scoreboard.proofs.deltas.delta_dword.Reads as reads
-use Rattle.scoreboard.proofs.deltas.delta_dword.Lts as lts
 
 returns : tie.Need-returns
 unfolding deltaDword

@@ -4,10 +4,6 @@ use Rattle.scoreboard.specs.Deltas.{deltaX}
 use Rattle.scoreboard.proofs.Nibbles.{by-half}
 use Rattle.scoreboard.proofs.deltas.delta_x.Statement.{statement}
 use Rattle.scoreboard.proofs.deltas.delta_x.Tie as tie
-use Rattle.scoreboard.proofs.deltas.delta_x.Reads as reads
-use Rattle.scoreboard.proofs.deltas.delta_x.Lts as lts
-use Rattle.scoreboard.proofs.deltas.delta.Reads as delta-reads
-use Rattle.scoreboard.proofs.deltas.delta_dword.Reads as delta-dword-reads
 
 delta-dword-requires : tie.Need-delta-dword-requires
 delta-dword-requires c κs = search needs

@@ -3,9 +3,6 @@ use Rattle.laws.proofs.BitRanges.{taken, taken-low}
 use Rattle.scoreboard.proofs.Masks.{joined-small, joined-counted}
 use Rattle.scoreboard.proofs.in_play.deltas_in_play.Statement.{statement}
 use Rattle.scoreboard.proofs.in_play.deltas_in_play.Tie as tie
-use Rattle.scoreboard.proofs.in_play.deltas_in_play.Reads as reads
-use Rattle.scoreboard.proofs.in_play.deltas_in_play.Lts as lts
-use Rattle.scoreboard.proofs.in_play.joined_mask.Reads as joined-mask-reads
 
 joined-mask-requires : tie.Need-joined-mask-requires
 joined-mask-requires c κs = search needs

@@ -4,9 +4,6 @@ use Rattle.laws.proofs.BitRanges.{taken-low}
 use Rattle.scoreboard.specs.InPlay.{joinedMask}
 use Rattle.scoreboard.proofs.in_play.joined_mask.Statement.{statement}
 use Rattle.scoreboard.proofs.in_play.joined_mask.Tie as tie
-use Rattle.scoreboard.proofs.in_play.joined_mask.Reads as reads
-use Rattle.scoreboard.proofs.in_play.joined_mask.Lts as lts
-use Rattle.scoreboard.proofs.in_play.uses_scoreboard.Reads as uses-scoreboard-reads
 
 uses-scoreboard-requires : tie.Need-uses-scoreboard-requires
 uses-scoreboard-requires c κs = search needs

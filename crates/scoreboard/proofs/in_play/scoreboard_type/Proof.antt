@@ -3,8 +3,6 @@ use Rattle.laws.proofs.BitRanges.{taken}
 use Rattle.scoreboard.specs.InPlay.{typeOf}
 use Rattle.scoreboard.proofs.in_play.scoreboard_type.Statement.{statement}
 use Rattle.scoreboard.proofs.in_play.scoreboard_type.Tie as tie
-use Rattle.scoreboard.proofs.in_play.scoreboard_type.Reads as reads
-use Rattle.scoreboard.proofs.in_play.scoreboard_type.Lts as lts
 
 returns : tie.Need-returns
 unfolding typeOf

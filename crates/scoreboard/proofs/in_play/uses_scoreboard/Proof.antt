@@ -3,8 +3,6 @@ use Rattle.laws.proofs.BitRanges.{taken}
 use Rattle.scoreboard.specs.InPlay.{usesScoreboard}
 use Rattle.scoreboard.proofs.in_play.uses_scoreboard.Statement.{statement}
 use Rattle.scoreboard.proofs.in_play.uses_scoreboard.Tie as tie
-use Rattle.scoreboard.proofs.in_play.uses_scoreboard.Reads as reads
-use Rattle.scoreboard.proofs.in_play.uses_scoreboard.Lts as lts
 
 returns : tie.Need-returns
 unfolding usesScoreboard

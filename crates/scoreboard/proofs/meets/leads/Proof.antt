@@ -2,11 +2,6 @@ use borrow.Author.Needs.{needs}
 use Rattle.scoreboard.proofs.Lowest.{leads-off, leads-on}
 use Rattle.scoreboard.proofs.meets.leads.Statement.{statement}
 use Rattle.scoreboard.proofs.meets.leads.Tie as tie
-use Rattle.scoreboard.proofs.meets.leads.Reads as reads
-use Rattle.scoreboard.proofs.meets.leads.Lts as lts
-use Rattle.scoreboard.proofs.deltas.delta_x.Reads as delta-x-reads
-use Rattle.scoreboard.proofs.deltas.delta_y.Reads as delta-y-reads
-use Rattle.scoreboard.proofs.meets.meets.Reads as meets-reads
 
 shr-if1 : tie.Need-shr-if1
 shr-if1 c = search needs

@@ -7,9 +7,6 @@ use Rattle.scoreboard.specs.Lowest.{leadsAt, lowestAt}
 use Rattle.laws.proofs.Find.{hit, miss, over, start}
 use Rattle.scoreboard.proofs.meets.lowest_delta.Statement.{statement}
 use Rattle.scoreboard.proofs.meets.lowest_delta.Tie as tie
-use Rattle.scoreboard.proofs.meets.lowest_delta.Reads as reads
-use Rattle.scoreboard.proofs.meets.lowest_delta.Lts as lts
-use Rattle.scoreboard.proofs.meets.leads.Reads as leads-reads
 
 abbrev Inv-loop : tie.InvT-loop
 Inv-loop x y mask d6 d7 jx jy i₀ i = (i ≤ 8) × (firstFrom (8 - i) (leadsAt x y mask d6 d7 jx jy) i ≡ lowestAt x y mask d6 d7 jx jy)

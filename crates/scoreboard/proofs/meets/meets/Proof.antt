@@ -4,9 +4,6 @@ use borrow.Author.Tests.{not-true, not-false}
 use Rattle.scoreboard.specs.Objects.{meetsAt}
 use Rattle.scoreboard.proofs.meets.meets.Statement.{statement}
 use Rattle.scoreboard.proofs.meets.meets.Tie as tie
-use Rattle.scoreboard.proofs.meets.meets.Reads as reads
-use Rattle.scoreboard.proofs.meets.meets.Lts as lts
-use Rattle.scoreboard.proofs.meets.reaches_axis.Reads as reaches-axis-reads
 
 reaches-axis-requires : tie.Need-reaches-axis-requires
 reaches-axis-requires c κs = search needs

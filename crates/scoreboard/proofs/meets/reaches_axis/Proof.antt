@@ -2,8 +2,6 @@ use borrow.Author.Needs.{needs}
 use Rattle.scoreboard.proofs.Signed.{widened, sum-fits, sum-reaches}
 use Rattle.scoreboard.proofs.meets.reaches_axis.Statement.{statement}
 use Rattle.scoreboard.proofs.meets.reaches_axis.Tie as tie
-use Rattle.scoreboard.proofs.meets.reaches_axis.Reads as reads
-use Rattle.scoreboard.proofs.meets.reaches_axis.Lts as lts
 
 cast-target : tie.Need-cast-target
 cast-target c = search needs
