@@ -3,7 +3,7 @@ use mathlib.Core.Path.{_≡_, refl, ap, sym, _∙_, subst}
 use mathlib.Core.Bool.{Bool, true, false, cond}
 use Prim.Native.Nat.{ℕ, zero, suc, _+_, _-_, _<_, _≤_}
 use mathlib.Core.Logic.{_⊎_, inl, inr}
-use native.Mathlib.Nat.{eq-or-lt-of-le, add-zero, zero-add, not-suc-le-zero}
+use native.Mathlib.Nat.{eq-or-lt-of-le}
 use native.Mathlib.Numerals.{add-one}
 use native.Mathlib.Omega.{arith}
 use Rattle.laws.specs.Find.{firstFrom, findFirst}
@@ -31,20 +31,7 @@ pub start : (f : ℕ → Bool) (n : ℕ) → firstFrom (n - 0) f 0 ≡ findFirst
 unfolding findFirst
 start f n = let e : n - 0 ≡ n = omega arith in ap (λ (m : ℕ). firstFrom m f 0) e
 
--- the range, and what holds at a find
-from-le : (f : ℕ → Bool) (n i : ℕ) → firstFrom n f i ≤ i + n
-unfolding firstFrom
-from-le f zero i = omega arith
-from-le f (suc n) i = go (f i) (from-le f n (suc i))
-  where
-    go : (b : Bool) → firstFrom n f (suc i) ≤ suc i + n → cond b i (firstFrom n f (suc i)) ≤ i + suc n
-    go true ih = omega arith
-    go false ih = omega arith
-
-pub find-le : (f : ℕ → Bool) (n : ℕ) → findFirst n f ≤ n
-unfolding findFirst
-find-le f n = omega (arith, from-le f n 0)
-
+-- what holds at a find
 from-at : (f : ℕ → Bool) (n i : ℕ) → firstFrom n f i < i + n → f (firstFrom n f i) ≡ true
 unfolding firstFrom
 from-at f zero i h = absurd (omega arith)
@@ -58,47 +45,6 @@ from-at f (suc n) i h = go (f i) refl (from-at f n (suc i)) h
 pub find-at : (f : ℕ → Bool) (n : ℕ) → findFirst n f < n → f (findFirst n f) ≡ true
 unfolding findFirst
 find-at f n h = from-at f n 0 (omega arith)
-
--- two tests that agree below n find the same
-from-same : (f g : ℕ → Bool) (n i : ℕ) → ((k : ℕ) → k < i + n → f k ≡ g k) → firstFrom n f i ≡ firstFrom n g i
-unfolding firstFrom
-from-same f g zero i e = refl
-from-same f g (suc n) i e =
-    ap (λ (b : Bool). cond b i (firstFrom n f (suc i))) (e i (omega arith))
-    ∙ ap (λ (m : ℕ). cond (g i) i m) (from-same f g n (suc i) (λ k h. e k (omega arith)))
-
-pub find-same : (f g : ℕ → Bool) (n : ℕ) → ((k : ℕ) → k < n → f k ≡ g k) → findFirst n f ≡ findFirst n g
-unfolding findFirst
-find-same f g n e = from-same f g n 0 (λ k h. e k (omega arith))
-
--- by every index passed
-first-at : (f : ℕ → Bool) (n i k : ℕ) → k < n → ((j : ℕ) → j < k → f (i + j) ≡ false) → f (i + k) ≡ true → firstFrom n f i ≡ i + k
-unfolding firstFrom
-first-at f zero i k h off on = absurd (not-suc-le-zero h)
-first-at f (suc n) i zero h off on =
-    ap (λ (b : Bool). cond b i (firstFrom n f (suc i))) (subst (λ (m : ℕ). f m ≡ true) (add-zero i) on) ∙ sym (add-zero i)
-first-at f (suc n) i (suc k) h off on =
-    let s : (j : ℕ) → i + suc j ≡ suc i + j = λ j. omega arith in
-    ap (λ (b : Bool). cond b i (firstFrom n f (suc i))) (subst (λ (m : ℕ). f m ≡ false) (add-zero i) (off 0 (omega arith)))
-    ∙ first-at f n (suc i) k (omega arith) (λ j l. subst (λ (m : ℕ). f m ≡ false) (s j) (off (suc j) (omega arith))) (subst (λ (m : ℕ). f m ≡ true) (s k) on)
-    ∙ sym (s k)
-
-none-at : (f : ℕ → Bool) (n i : ℕ) → ((j : ℕ) → j < n → f (i + j) ≡ false) → firstFrom n f i ≡ i + n
-unfolding firstFrom
-none-at f zero i off = sym (add-zero i)
-none-at f (suc n) i off =
-    let s : (j : ℕ) → i + suc j ≡ suc i + j = λ j. omega arith in
-    ap (λ (b : Bool). cond b i (firstFrom n f (suc i))) (subst (λ (m : ℕ). f m ≡ false) (add-zero i) (off 0 (omega arith)))
-    ∙ none-at f n (suc i) (λ j l. subst (λ (m : ℕ). f m ≡ false) (s j) (off (suc j) (omega arith))) ∙ sym (s n)
-
-pub found : (f : ℕ → Bool) (n k : ℕ) → k < n → ((j : ℕ) → j < k → f j ≡ false) → f k ≡ true → findFirst n f ≡ k
-unfolding findFirst
-found f n k h off on =
-    first-at f n 0 k h (λ j l. subst (λ (m : ℕ). f m ≡ false) (sym (zero-add j)) (off j l)) (subst (λ (m : ℕ). f m ≡ true) (sym (zero-add k)) on) ∙ zero-add k
-
-pub none : (f : ℕ → Bool) (n : ℕ) → ((j : ℕ) → j < n → f j ≡ false) → findFirst n f ≡ n
-unfolding findFirst
-none f n off = none-at f n 0 (λ j l. subst (λ (m : ℕ). f m ≡ false) (sym (zero-add j)) (off j l)) ∙ zero-add n
 
 -- nothing is found before the find
 from-before : (f : ℕ → Bool) (n i k : ℕ) → i ≤ k → k < firstFrom n f i → f k ≡ false
