@@ -28,7 +28,7 @@ use Rattle.batch.specs.Answers.{recorded}
 use Rattle.batch.specs.Turns.{turned, turnOf, here, Passes, onwardOf}
 use Rattle.batch.proofs.Walk.{walk, reading-walk, then, turn-at, walk-end}
 use Rattle.batch.proofs.Turns.{first, turn-is}
-use Rattle.batch.proofs.Scans.{next-kept}
+use Rattle.batch.proofs.Scans.{grown, next-kept}
 
 -- the turn that the second pass takes for granted
 abbrev turnAs : Onward → Turn
@@ -131,7 +131,9 @@ module _ (b : List ℕ) (L : ℕ) (el : L ≡ length b) (at : ℕ) (st : State) 
 
     module _ (t : ℕ) (s : State) (e : x ≡ Then t s) where
       keeps : (1 ≤ t) × (t ≤ length b - at) × (s .commands ≡ st .commands + 1) × (s .objects ≤ st .objects + 1)
-      keeps = next-kept b L el at st (turnOf (drop at b) st) t s p refl (turns ∙ ap turnAs e)
+      keeps =
+          let z = next-kept b L el at st (turnOf (drop at b) st) t s p refl (turns ∙ ap turnAs e) in
+          let g = grown (eqb (kindOf (getD (drop at b) 0 0)) 7) (st .objects) in (z .0, z .1, z .2, omega arith)
 
       goes : walk (drop at b) 0 at st ≡ andThen (here (drop at b) at st) (walk (drop (at + t) b) 0 (at + t) s)
       goes = walks (Then t s) e ∙ ap (λ (l : List ℕ). andThen (here (drop at b) at st) (walk l 0 (at + t) s)) (drop-drop t at b)

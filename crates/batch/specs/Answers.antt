@@ -5,6 +5,7 @@ use mathlib.Core.List.{List}
 use lib.ListN.{length, set}
 use lib.Dec.{ltb, eqb}
 use Rattle.words.specs.Dwords.{dwordsOf, putLe}
+use Rattle.command.specs.Order.{objectCount}
 use Rattle.batch.specs.declared.Answer.{Answer}
 use Rattle.batch.specs.declared.Scanned.{Scanned}
 use Rattle.batch.specs.declared.Scanned.the-variants.{Stopped, Ended}
@@ -56,10 +57,14 @@ bytesAnswerOf capacity b r =
 unfoldable pub bytesRecordsOf : ℕ → List ℕ → List ℕ → List ℕ
 bytesRecordsOf capacity b r = cond (eqb (length b % 4) 0) (recordedIn putLe capacity (length r / 4) (dwordsOf b) r) r
 
--- what the first pass finds, 1 and 10 aside
-abbrev pub scanned : ℕ → Stop → Scanned
-scanned n (ended d) = Ended n d
-scanned n (stopped m p) = Stopped m p
+-- what the first pass finds, 1 and 10 aside: a batch read to its end has so many commands n, and so many objects o
+abbrev pub scanned : ℕ → ℕ → Stop → Scanned
+scanned n o (ended d) = Ended n d o
+scanned n o (stopped m p) = Stopped m p
 
 unfoldable pub scanOf : ℕ → List ℕ → Scanned
-scanOf capacity b = scanned (length (readingOf capacity b .passed)) (readingOf capacity b .stop)
+scanOf capacity b = let cs = readingOf capacity b .passed in scanned (length cs) (objectCount cs) (readingOf capacity b .stop)
+
+-- the whole decision, with what an accepted batch has
+abbrev pub decisionOf : ℕ → ℕ → List ℕ → Scanned
+decisionOf capacity room b = decided Stopped (λ c d. Ended c d (objectCount (readingOf capacity b .passed))) capacity room b

@@ -6,8 +6,7 @@ ghost use Rattle.words.specs.Dwords.{dwordsIn, buffer, putIn};
 ghost use Rattle.command.specs.Kinds.{kindOf};
 ghost use Rattle.batch.specs.Reading.{readingOf, Whole};
 ghost use Rattle.batch.specs.Records.{slot, putWords, written};
-ghost use Rattle.batch.specs.Answers.{scanOf, decided, refusedAnswer, acceptedAnswer, recorded, answerOf, recordsOf, bytesAnswerOf, bytesRecordsOf};
-ghost use Rattle.batch.specs.declared.Scanned.the-variants.{Stopped, Ended};
+ghost use Rattle.batch.specs.Answers.{scanOf, decisionOf, refusedAnswer, acceptedAnswer, recorded, answerOf, recordsOf, bytesAnswerOf, bytesRecordsOf};
 ghost use Rattle.batch.specs.Turns.{turnOf, Passes, onwardOf, here};
 ghost use Rattle.command.specs.Record.{recordOf};
 use command::State;
@@ -35,8 +34,15 @@ pub struct Answer {
 
 // What is found before anything is written: a refusal, or the end of the batch.
 pub enum Scanned {
-    Stopped { number: u32, place: usize },
-    Ended { commands: usize, dwords: usize },
+    Stopped {
+        number: u32,
+        place: usize,
+    },
+    Ended {
+        commands: usize,
+        dwords: usize,
+        objects: usize,
+    },
 }
 
 // What one command leads to: a refusal at a dword of it, the end, or the next command after so many dwords.
@@ -113,6 +119,7 @@ fn scan(dw: &[u32], by: &[u8], capacity: u32) -> Scanned
                 return Scanned::Ended {
                     commands: st.commands as usize + 1,
                     dwords: at + 1,
+                    objects: st.objects as usize,
                 };
             }
             Turn::Next { total, st: next } => {
@@ -190,7 +197,7 @@ fn record_at(dw: &[u32], by: &[u8], at: usize, st: State, rd: &mut [u32], rb: &m
 }
 
 // The second pass: the record of each command of a batch that passed.
-fn fill(dw: &[u32], by: &[u8], capacity: u32, rd: &mut [u32], rb: &mut [u8])
+pub fn fill(dw: &[u32], by: &[u8], capacity: u32, rd: &mut [u32], rb: &mut [u8])
     requires { ⌜ (length (dwordsIn (now dw) (now by)) ≤ 16384) × Whole (readingOf capacity (dwordsIn (now dw) (now by)) .stop) × (16 * length (readingOf capacity (dwordsIn (now dw) (now by)) .passed) ≤ length (dwordsIn (now rd) (now rb))) ⌝ }
     ensures { λ _. ⌜ (buffer (now (rd .exit)) (now (rb .exit)) ≡ recorded putIn capacity (dwordsIn (now (dw .entry)) (now (by .entry))) (buffer (now (rd .entry)) (now (rb .entry)))) × (dwordsIn (now (rd .exit)) (now (rb .exit)) ≡ recorded set capacity (dwordsIn (now (dw .entry)) (now (by .entry))) (dwordsIn (now (rd .entry)) (now (rb .entry)))) ⌝ }
 {
@@ -210,9 +217,9 @@ fn fill(dw: &[u32], by: &[u8], capacity: u32, rd: &mut [u32], rb: &mut [u8])
     }
 }
 
-// The whole decision, before anything is written: 1 to 10, or the end of the batch. The record buffer has room for so many words.
-fn decide(dw: &[u32], by: &[u8], capacity: u32, room: usize) -> Scanned
-    ensures { λ r. ⌜ r ≡ decided Stopped Ended capacity room (dwordsIn (now (dw .entry)) (now (by .entry))) ⌝ }
+// The whole decision, before anything is written: 1 to 10, or the end of the batch with what it has. The record buffer has room for so many words.
+pub fn decide(dw: &[u32], by: &[u8], capacity: u32, room: usize) -> Scanned
+    ensures { λ r. ⌜ r ≡ decisionOf capacity room (dwordsIn (now (dw .entry)) (now (by .entry))) ⌝ }
 {
     if 16384 < held(dw, by) {
         return Scanned::Stopped {
@@ -222,14 +229,22 @@ fn decide(dw: &[u32], by: &[u8], capacity: u32, room: usize) -> Scanned
     }
     match scan(dw, by, capacity) {
         Scanned::Stopped { number, place } => Scanned::Stopped { number, place },
-        Scanned::Ended { commands, dwords } => {
+        Scanned::Ended {
+            commands,
+            dwords,
+            objects,
+        } => {
             if room / 16 < commands {
                 return Scanned::Stopped {
                     number: 10,
                     place: dwords,
                 };
             }
-            Scanned::Ended { commands, dwords }
+            Scanned::Ended {
+                commands,
+                dwords,
+                objects,
+            }
         }
     }
 }
@@ -264,7 +279,11 @@ pub fn check(batch: &[u32], capacity: u32, records: &mut [u32]) -> Answer
     let mut empty: [u8; 0] = [];
     match decide(batch, &none, capacity, records.len()) {
         Scanned::Stopped { number, place } => refused(number, place),
-        Scanned::Ended { commands, dwords } => {
+        Scanned::Ended {
+            commands,
+            dwords,
+            objects,
+        } => {
             fill(batch, &none, capacity, records, &mut empty);
             accepted(commands, dwords)
         }
@@ -282,7 +301,11 @@ pub fn check_bytes(batch: &[u8], capacity: u32, records: &mut [u8]) -> Answer
     let mut empty: [u32; 0] = [];
     match decide(&none, batch, capacity, records.len() / 4) {
         Scanned::Stopped { number, place } => refused(number, place),
-        Scanned::Ended { commands, dwords } => {
+        Scanned::Ended {
+            commands,
+            dwords,
+            objects,
+        } => {
             fill(&none, batch, capacity, &mut empty, records);
             accepted(commands, dwords)
         }

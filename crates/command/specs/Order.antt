@@ -60,9 +60,9 @@ vfeInForce [] = 0
 vfeInForce (c ∷ cs) = cond (eqb (c .kind) 3) (length cs) (vfeInForce cs)
 
 -- the number of the next object: "Numbering starts at 0"
-unfoldable pub objectsBefore : List Command → ℕ
-objectsBefore [] = 0
-objectsBefore (c ∷ cs) = cond (eqb (c .kind) 7) (objectsBefore cs + 1) (objectsBefore cs)
+unfoldable pub objectCount : List Command → ℕ
+objectCount [] = 0
+objectCount (c ∷ cs) = cond (eqb (c .kind) 7) (objectCount cs + 1) (objectCount cs)
 
 -- all of that, with the lent capacity in rows
 unfoldable pub stateOf : ℕ → List Command → State
@@ -76,7 +76,7 @@ stateOf capacity cs =
       standing = mediaSinceFlush cs;
       unflushed = objectSinceFlush cs;
       commands = length cs;
-      objects = objectsBefore cs;
+      objects = objectCount cs;
     }
 
 -- The same one command at a time: what stands after a command of kind k with own dwords h. `state-after` of proofs/Order.antt shows that

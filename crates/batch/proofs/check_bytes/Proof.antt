@@ -31,7 +31,7 @@ slice-aggregate-fill-2 : tie.Need-slice-aggregate-fill-2
 slice-aggregate-fill-2 c = search needs
 
 fill-requires : tie.Need-fill-requires
-fill-requires c κs = (search fits, search fits, bytes-room _ _ _ _ _ _ (c .before .before .before .before .before .before .decide .ensures) (c .before .before .before .before .commands .given .1))
+fill-requires c κs = (search fits, search fits, bytes-room _ _ _ _ _ _ _ (c .before .before .before .before .before .before .decide .ensures) (c .before .before .before .before .commands .given .1))
 
 accepted-requires : tie.Need-accepted-requires
 accepted-requires c κs = search needs
@@ -51,7 +51,7 @@ returns-3 c =
     let q = c .before .before .before .before .before .before .before .before .before .before .before .before .before .if1 .left in
     let w = c .before .before .before .before .before .before .before .before .before .before .before .decide .ensures in
     let e = c .before .before .before .before .before .before .before .before .before .commands .given .1 in
-    (bytes-accepted _ _ _ _ q w _ _ e _ (c .accepted .ensures), bytes-filled _ _ _ _ q w _ _ e _ _ (c .before .before .before .before .fill .ensures .0))
+    (bytes-accepted _ _ _ _ q w _ _ _ e _ (c .accepted .ensures), bytes-filled _ _ _ _ q w _ _ _ e _ _ (c .before .before .before .before .fill .ensures .0))
 
 pub check-bytes-spec : {M : Type 1} → statement M
 check-bytes-spec =

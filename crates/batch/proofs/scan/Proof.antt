@@ -5,7 +5,7 @@ use lib.ListN.{length, drop}
 use Rattle.words.specs.Dwords.{dwordsIn}
 use Rattle.batch.specs.Answers.{scanOf}
 use Rattle.batch.proofs.Walk.{walk}
-use Rattle.batch.proofs.Scans.{told, start-laws, told-laws, next-laws}
+use Rattle.batch.proofs.Scans.{toldOf, start-laws, told-laws, next-laws}
 use Rattle.batch.proofs.scan.Statement.{statement}
 use Rattle.batch.proofs.scan.Tie as tie
 
@@ -14,7 +14,7 @@ Inv-loop dw by capacity len at₀ st₀ at st =
     (at ≤ length (dwordsIn dw by))
     × (st .commands ≤ at)
     × (st .objects ≤ at)
-    × (told (st .commands) (walk (drop at (dwordsIn dw by)) 0 at st) ≡ scanOf capacity (dwordsIn dw by))
+    × (toldOf st (walk (drop at (dwordsIn dw by)) 0 at st) ≡ scanOf capacity (dwordsIn dw by))
 
 abbrev μ-loop : tie.MeasureT-loop
 μ-loop dw by capacity len at₀ st₀ at st = length (dwordsIn dw by) - at
@@ -55,6 +55,9 @@ add-t16 c = search needs
 add-t17 : tie.Need-add-t17 Inv-loop μ-loop
 add-t17 c = search needs
 
+cast-t18 : tie.Need-cast-t18 Inv-loop μ-loop
+cast-t18 c = search needs
+
 returns-2 : tie.Need-returns-2 Inv-loop μ-loop
 returns-2 c = search told-laws
 
@@ -94,6 +97,7 @@ scan-spec =
     cast-t15
     add-t16
     add-t17
+    cast-t18
     returns-2
     enum-known-total
     cast-at
