@@ -8,3 +8,4 @@ pub mod Same
 pub mod Acceptance
 pub mod EndToEnd
 pub mod Slots
+pub mod Vfes

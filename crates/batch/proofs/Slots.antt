@@ -100,6 +100,21 @@ dword-same r k v h = getD-set-same r k v 0 h
 byte-other : (r : List ℕ) (k v p : ℕ) → p / 4 ≢ k → getD (putLe r k v) p 0 ≡ getD r p 0
 byte-other r k v p n = put-other r k v p n
 
+-- LAW: word f of record i in a buffer of dwords
+pub word-at : (cs : List Command) (r : List ℕ) (i f : ℕ) (z : Command) → 16 * length cs ≤ length r → i < length cs → f < 16 →
+    getD (written set cs 0 r) (slot i f) 0 ≡ getD (recordOf (getD cs i z)) f 0
+word-at cs r i f z h p q =
+    let e : slot i f ≡ slot (0 + i) f = omega arith in
+    ap (λ (k : ℕ). getD (written set cs 0 r) k 0) e
+    ∙ written-at set (λ p. p) (λ r k. getD r k 0) (λ v. v) (λ n. n) length-set dword-other (λ r k v j n. dword-other r k v j n) dword-same cs 0 r i f z (omega arith) p q
+
+pub written-length : (cs : List Command) (i : ℕ) (r : List ℕ) → length (written set cs i r) ≡ length r
+unfolding written
+written-length [] i r = refl
+written-length (c ∷ cs) i r =
+    written-length cs (i + 1) (putWords set r i (recordOf c) 16)
+    ∙ words-length set (λ p. p) (λ r k. getD r k 0) (λ v. v) (λ n. n) length-set dword-other (λ r k v j n. dword-other r k v j n) dword-same i (recordOf c) r 16
+
 module _ (capacity : ℕ) (b r : List ℕ) (c d : ℕ) (h : answerOf capacity b r ≡ acceptedAnswer c d) where
   -- on success the buffer holds the records of the commands passed
   filled : recordsOf capacity b r ≡ recorded set capacity b r
@@ -113,11 +128,7 @@ module _ (capacity : ℕ) (b r : List ℕ) (c d : ℕ) (h : answerOf capacity b 
   record-at i f z p q =
       let n = accepted-commands capacity b r c d h in
       let m = accepted-room capacity b r c d h in
-      let e : slot i f ≡ slot (0 + i) f = omega arith in
-      ap (λ (l : List ℕ). getD l (slot i f) 0) filled
-      ∙ ap (λ (k : ℕ). getD (written set (readingOf capacity b .passed) 0 r) k 0) e
-      ∙ written-at set (λ p. p) (λ r k. getD r k 0) (λ v. v) (λ n. n) length-set dword-other (λ r k v j n. dword-other r k v j n) dword-same
-      (readingOf capacity b .passed) 0 r i f z (omega arith) (omega arith) q
+      ap (λ (l : List ℕ). getD l (slot i f) 0) filled ∙ word-at (readingOf capacity b .passed) r i f z (omega arith) (omega arith) q
 
   -- LAW: every other word is as it was
   pub record-other : (k : ℕ) → ((i f : ℕ) → i < c → f < 16 → k ≢ slot i f) → getD (recordsOf capacity b r) k 0 ≡ getD r k 0

@@ -3,4 +3,5 @@ pub mod Records
 pub mod Answers
 pub mod Unread
 pub mod EndToEnd
+pub mod Vfes
 pub mod Turns

@@ -5,8 +5,9 @@ use Prim.Native.Nat.{ℕ, zero, suc, _+_, _≤_}
 use native.Mathlib.Omega.{arith}
 use mathlib.Core.List.{List, [], _∷_, _++_}
 use lib.Dec.{T, eqb, ltb}
+use lib.ListN.{getD}
 use borrow.Author.Tests.{ltb-false, leb-true, eqb-true, eqb-false, eq-eqb, ne-eqb, le-ltb, not-false}
-use Rattle.laws.specs.Rows.{Row, firstRow}
+use Rattle.laws.specs.Rows.{Row, row, firstRow}
 use Rattle.laws.proofs.Tests.{both-left, both-right}
 use Rattle.command.specs.declared.State.{State}
 use Rattle.command.specs.declared.Verdict.{Verdict}
@@ -74,6 +75,26 @@ module _ (k d left : ℕ) (e : headerVerdict k d left ≡ Passed) where
 
   pub passed-length : lengthAllowed k (lengthField d) ≡ true
   passed-length = not-false (lengthAllowed k (lengthField d)) (split .1)
+
+-- a command that passes has no row that holds
+none-holds : (rs : List Row) (i : ℕ) → firstRow Fault Passed rs ≡ Passed → getD rs i (row 0 0 false) .holds ≡ false
+none-holds [] i e = refl
+none-holds (x ∷ xs) zero e = first-off (x .holds) e
+  where
+    first-off : (t : Bool) → cond t (Fault (x .number) (x .place)) (firstRow Fault Passed xs) ≡ Passed → t ≡ false
+    first-off true e = absurd (never (x .number) (x .place) e)
+    first-off false e = refl
+none-holds (x ∷ xs) (suc i) e = go (x .holds) (none-holds xs i) e
+  where
+    go : (t : Bool) → (firstRow Fault Passed xs ≡ Passed → getD xs i (row 0 0 false) .holds ≡ false) → cond t (Fault (x .number) (x .place)) (firstRow Fault Passed xs) ≡ Passed
+        → getD xs i (row 0 0 false) .holds ≡ false
+    go true ih e = absurd (never (x .number) (x .place) e)
+    go false ih e = ih e
+
+-- an OBJECT that passes has an earlier VFE: the row of 8 that asks for one comes after the rows of 3 to 7
+pub passed-configured : (left : ℕ) (h : List ℕ) (st : State) → judgeOf 7 left h st ≡ Passed → st .configured ≡ 0 → ⊥
+unfolding judgeOf
+passed-configured left h st e = eqb-false (st .configured) 0 (none-holds (headerRows 7 (dword h 0) left ++ ownRows 7 h st) 14 e)
 
 -- a kind's own dwords are among its total
 own-beyond : (k n : ℕ) → 8 ≤ k → ownDwords k ≤ cond (ltb k 3) 1 (n + 2)

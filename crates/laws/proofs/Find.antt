@@ -6,7 +6,9 @@ use mathlib.Core.Logic.{_⊎_, inl, inr}
 use native.Mathlib.Nat.{eq-or-lt-of-le}
 use native.Mathlib.Numerals.{add-one}
 use native.Mathlib.Omega.{arith}
-use Rattle.laws.specs.Find.{firstFrom, findFirst}
+use lib.Dec.{T, ltb}
+use borrow.Author.Tests.{ltb-true, ltb-false}
+use Rattle.laws.specs.Find.{firstFrom, findFirst, NoneBelow}
 
 -- one turn, as a loop counts
 module _ (f : ℕ → Bool) (n i : ℕ) where
@@ -63,3 +65,59 @@ from-before f (suc n) i k l h = go (f i) refl (from-before f n (suc i) k) h
 pub find-before : (f : ℕ → Bool) (n k : ℕ) → k < findFirst n f → f k ≡ false
 unfolding findFirst
 find-before f n k h = from-before f n 0 k (omega arith) h
+
+-- a search that goes on from where nothing was found before
+pub none-first : (f : ℕ → Bool) → NoneBelow f 0
+none-first f j h = absurd (omega arith)
+
+pub none-next : (f : ℕ → Bool) (n : ℕ) → NoneBelow f n → f n ≡ false → NoneBelow f (n + 1)
+none-next f n off e j h = go (eq-or-lt-of-le (let l : j ≤ n = omega arith in l))
+  where
+    go : (j ≡ n) ⊎ (j < n) → f j ≡ false
+    go (inl q) = subst (λ (m : ℕ). f m ≡ false) (sym q) e
+    go (inr q) = off j q
+
+find-le : (f : ℕ → Bool) (n i : ℕ) → firstFrom n f i ≤ i + n
+unfolding firstFrom
+find-le f zero i = omega arith
+find-le f (suc n) i = go (f i) (find-le f n (suc i))
+  where
+    go : (t : Bool) → firstFrom n f (suc i) ≤ suc i + n → cond t i (firstFrom n f (suc i)) ≤ i + suc n
+    go true ih = omega arith
+    go false ih = omega arith
+
+never : (f : ℕ → Bool) (k : ℕ) → f k ≡ true → f k ≡ false → ⊥
+never f k p q = subst T (sym p ∙ q) tt
+
+pub found : (f : ℕ → Bool) (n k : ℕ) → k < n → NoneBelow f k → f k ≡ true → findFirst n f ≡ k
+found f n k h off on = go (eq-or-lt-of-le at-least)
+  where
+    at-most : findFirst n f ≤ k
+    at-most = go-le (ltb k (findFirst n f)) refl
+      where
+        go-le : (t : Bool) → ltb k (findFirst n f) ≡ t → findFirst n f ≤ k
+        go-le true p = absurd (never f k on (find-before f n k (ltb-true k (findFirst n f) p)))
+        go-le false p = ltb-false k (findFirst n f) p
+
+    at-least : k ≤ findFirst n f
+    at-least = go-ge (ltb (findFirst n f) k) refl
+      where
+        go-ge : (t : Bool) → ltb (findFirst n f) k ≡ t → k ≤ findFirst n f
+        go-ge true p =
+            let l : findFirst n f < k = ltb-true (findFirst n f) k p in
+            absurd (never f (findFirst n f) (find-at f n (omega arith)) (off (findFirst n f) l))
+        go-ge false p = ltb-false (findFirst n f) k p
+
+    go : (k ≡ findFirst n f) ⊎ (k < findFirst n f) → findFirst n f ≡ k
+    go (inl q) = sym q
+    go (inr q) = absurd (omega (arith, at-most))
+
+pub none : (f : ℕ → Bool) (n k : ℕ) → n ≤ k → NoneBelow f k → findFirst n f ≡ n
+unfolding findFirst
+none f n k h off = go (ltb (findFirst n f) n) refl
+  where
+    go : (t : Bool) → ltb (findFirst n f) n ≡ t → findFirst n f ≡ n
+    go true p =
+        let l : findFirst n f < n = ltb-true (findFirst n f) n p in
+        absurd (never f (findFirst n f) (find-at f n l) (off (findFirst n f) (omega arith)))
+    go false p = let l : n ≤ findFirst n f = ltb-false (findFirst n f) n p in let m : findFirst n f ≤ 0 + n = find-le f n 0 in omega arith
