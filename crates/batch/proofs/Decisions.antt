@@ -146,6 +146,23 @@ pub ruleset answers = (by-refusal, by-success)
 
 pub ruleset kept = (kept-refused, kept-recorded)
 
+-- a function of what is made of a decision
+module _ {A B : Type 0} (f : A → B) (refused accepted : ℕ → ℕ → A) where
+  map-cond : (t : Bool) (x y : A) → f (cond t x y) ≡ cond t (f x) (f y)
+  map-cond true x y = refl
+  map-cond false x y = refl
+
+  map-stop : (room n : ℕ) (s : Stop) → f (atStop refused accepted room n s) ≡ atStop (λ m p. f (refused m p)) (λ c d. f (accepted c d)) room n s
+  map-stop room n (stopped m p) = refl
+  map-stop room n (ended d) = map-cond (ltb room (16 * n)) (refused 10 d) (accepted n d)
+
+  pub map-decided : (capacity room : ℕ) (b : List ℕ) → f (decided refused accepted capacity room b) ≡ decided (λ m p. f (refused m p)) (λ c d. f (accepted c d)) capacity room b
+  unfolding decided
+  map-decided capacity room b =
+      let n = length (readingOf capacity b .passed) in
+      let s = readingOf capacity b .stop in
+      map-cond (ltb 16384 (length b)) (refused 1 0) (atStop refused accepted room n s) ∙ ap (cond (ltb 16384 (length b)) (f (refused 1 0))) (map-stop room n s)
+
 -- two buffers that agree word by word get the same records
 module _ {B C : Type 0} (put : B → ℕ → ℕ → B) (put′ : C → ℕ → ℕ → C) (f : B → C) (h : (r : B) (k v : ℕ) → f (put r k v) ≡ put′ (f r) k v) where
   words-map : (r : B) (i : ℕ) (ws : List ℕ) (n : ℕ) → f (putWords put r i ws n) ≡ putWords put′ (f r) i ws n
@@ -159,7 +176,7 @@ module _ {B C : Type 0} (put : B → ℕ → ℕ → B) (put′ : C → ℕ → 
   written-map (c ∷ cs) i r = written-map cs (i + 1) (putWords put r i (recordOf c) 16) ∙ ap (written put′ cs (i + 1)) (words-map r i (recordOf c) 16)
 
 -- bytes, as a buffer that is bytes
-as-bytes : (r : List ℕ) (k v : ℕ) → buffer [] (putLe r k v) ≡ putIn (buffer [] r) k v
+pub as-bytes : (r : List ℕ) (k v : ℕ) → buffer [] (putLe r k v) ≡ putIn (buffer [] r) k v
 unfolding stored
 as-bytes [] k v = refl
 as-bytes (x ∷ r) k v = refl

@@ -9,3 +9,4 @@ pub mod Acceptance
 pub mod EndToEnd
 pub mod Slots
 pub mod Vfes
+pub mod Counts

@@ -2,6 +2,7 @@
 ghost use mathlib.Core.Path.{_≡_};
 ghost use Rattle.scoreboard.specs.InPlay.{inPlay, counted};
 ghost use Rattle.batch.specs.Answers.{answerOf, recordsOf, bytesAnswerOf, bytesRecordsOf};
+ghost use Rattle.scoreboard.specs.Answers as order;
 
 // The batch check over little-endian bytes.
 #[no_mangle]
@@ -33,4 +34,32 @@ pub extern "C" fn mpl_deltas_in_play(
     ensures { λ r. ⌜ r ≡ counted (inPlay object_dword_2 vfe_dword_5 object_dword_5) ⌝ }
 {
     scoreboard::in_play::deltas_in_play(object_dword_2, vfe_dword_5, object_dword_5)
+}
+
+// The order check over little-endian bytes.
+#[no_mangle]
+pub extern "C" fn mpl_check_order(
+    batch: &[u8],
+    capacity: u32,
+    run: &[u8],
+    records: &mut [u8],
+    states: &mut [u8],
+) -> scoreboard::Answer
+    ensures { λ r. ⌜ (r ≡ order.bytesAnswerOf capacity (now (batch .entry)) (now (run .entry)) (now (records .entry)) (now (states .entry))) × (now (records .exit) ≡ order.bytesRecordsOf capacity (now (batch .entry)) (now (run .entry)) (now (records .entry)) (now (states .entry))) × (now (states .exit) ≡ order.bytesStatesOf capacity (now (batch .entry)) (now (run .entry)) (now (records .entry)) (now (states .entry))) ⌝ }
+{
+    scoreboard::check_bytes(batch, capacity, run, records, states)
+}
+
+// The order check over dwords.
+#[no_mangle]
+pub extern "C" fn mpl_check_order_dwords(
+    batch: &[u32],
+    capacity: u32,
+    run: &[u32],
+    records: &mut [u32],
+    states: &mut [u8],
+) -> scoreboard::Answer
+    ensures { λ r. ⌜ (r ≡ order.answerOf capacity (now (batch .entry)) (now (run .entry)) (now (records .entry)) (now (states .entry))) × (now (records .exit) ≡ order.recordsOf capacity (now (batch .entry)) (now (run .entry)) (now (records .entry)) (now (states .entry))) × (now (states .exit) ≡ order.statesOf capacity (now (batch .entry)) (now (run .entry)) (now (records .entry)) (now (states .entry))) ⌝ }
+{
+    scoreboard::check(batch, capacity, run, records, states)
 }

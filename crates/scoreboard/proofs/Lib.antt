@@ -5,3 +5,10 @@ pub mod Waits
 pub mod Named
 pub mod Runs
 pub mod Lowest
+pub mod RecordWords
+pub mod Spots
+pub mod Searches
+pub mod StartRows
+pub mod RunTurns
+pub mod RecordedObjects
+pub mod Orders

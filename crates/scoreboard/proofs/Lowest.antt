@@ -14,10 +14,8 @@ use mir.Facts.{toZ-ofZ}
 use Rattle.laws.specs.BitRanges.{bits, field}
 use Rattle.laws.proofs.BitRanges.{taken}
 use Rattle.scoreboard.specs.Deltas.{deltaX, deltaY}
-use Rattle.command.specs.Fields as fields
-use Rattle.command.specs.Fields.{dword}
 use Rattle.scoreboard.specs.InPlay.{bitSet, those, joinedMask}
-use Rattle.scoreboard.specs.Objects.{Delta, Object, meetsAt, meets, deltaAt, objectOf}
+use Rattle.scoreboard.specs.Objects.{Delta, Object, meetsAt, meets, deltaAt, objectWith}
 use Rattle.laws.specs.Find.{firstFrom, findFirst}
 use Rattle.scoreboard.specs.Run.{someOf, lowestOf}
 use Rattle.scoreboard.specs.Lowest.{leadsAt, lowestAt}
@@ -59,32 +57,32 @@ abbrev upFrom : ℕ → ℕ → List ℕ
 upFrom i zero = []
 upFrom i (suc n) = i ∷ upFrom (suc i) n
 
-module _ (v : List ℕ) (f : ℕ → Bool) (t : Delta → Bool) where
+module _ (d6 d7 : ℕ) (f : ℕ → Bool) (t : Delta → Bool) where
   abbrev found : ℕ → Bool
-  found i = f i && t (deltaAt v i)
+  found i = f i && t (deltaAt d6 d7 i)
 
   abbrev lowest : List ℕ → ℕ
-  lowest is = lowestOf t (map (deltaAt v) (those f is))
+  lowest is = lowestOf t (map (deltaAt d6 d7) (those f is))
 
   searched : (n i : ℕ) → i + n ≡ 8 → lowest (upFrom i n) ≡ firstFrom n found i
   unfolding firstFrom
   searched zero i e = let z : 8 ≡ i = omega arith in z
-  searched (suc n) i e = go (f i) (t (deltaAt v i)) refl (searched n (suc i) (omega arith)) (from-ge found n (suc i))
+  searched (suc n) i e = go (f i) (t (deltaAt d6 d7 i)) refl (searched n (suc i) (omega arith)) (from-ge found n (suc i))
     where
-      go : (p q : Bool) → t (deltaAt v i) ≡ q → lowest (upFrom (suc i) n) ≡ firstFrom n found (suc i) → suc i ≤ firstFrom n found (suc i)
-          → lowestOf t (map (deltaAt v) (cond p (i ∷ those f (upFrom (suc i) n)) (those f (upFrom (suc i) n)))) ≡ cond (p && q) i (firstFrom n found (suc i))
+      go : (p q : Bool) → t (deltaAt d6 d7 i) ≡ q → lowest (upFrom (suc i) n) ≡ firstFrom n found (suc i) → suc i ≤ firstFrom n found (suc i)
+          → lowestOf t (map (deltaAt d6 d7) (cond p (i ∷ those f (upFrom (suc i) n)) (those f (upFrom (suc i) n)))) ≡ cond (p && q) i (firstFrom n found (suc i))
       go true true r ih l = simp r (omega arith)
       go true false r ih l = simp r ih
       go false q r ih l = ih
 
--- a command's object: the code finds its lowest delta at j
-pub lowest-at : (h v : List ℕ) (j : Object) (m : ℕ) → m ≡ joinedMask (fields.usesScoreboard h) (fields.scoreboardMask h) (dword v 5)
-    → lowestAt (fields.positionX h) (fields.positionY h) m (dword v 6) (dword v 7) (j .x) (j .y) ≡ lowestOf (meets (objectOf h v) j) (objectOf h v .inPlay)
-unfolding lowestAt leadsAt findFirst objectOf
-lowest-at h v j m e =
-    sym (searched v (λ i. bitSet i m) (meets (objectOf h v) j) 8 0 refl)
-    ∙ ap (λ (is : List ℕ). lowestOf (meets (objectOf h v) j) (map (deltaAt v) is))
-    (ap setBits e ∙ joined-set (fields.usesScoreboard h) (fields.scoreboardMask h) (dword v 5))
+-- the code finds the lowest delta of an object at j
+pub lowest-at : (x y colour own mask d5 d6 d7 : ℕ) (j : Object)
+    → lowestAt x y (joinedMask own mask d5) d6 d7 (j .x) (j .y) ≡ lowestOf (meets (objectWith x y colour own mask d5 d6 d7) j) (objectWith x y colour own mask d5 d6 d7 .inPlay)
+unfolding lowestAt leadsAt findFirst objectWith
+lowest-at x y colour own mask d5 d6 d7 j =
+    let o = objectWith x y colour own mask d5 d6 d7 in
+    sym (searched d6 d7 (λ i. bitSet i (joinedMask own mask d5)) (meets o j) 8 0 refl)
+    ∙ ap (λ (is : List ℕ). lowestOf (meets o j) (map (deltaAt d6 d7) is)) (joined-set own mask d5)
 
 -- a delta below 8 is found where one leads there, and only there
 pub some-below : (f : Delta → Bool) (ds : List Delta) → ((d : Delta) → List·Memᴰ d ds → d .index < 8) → someOf f ds ≡ ltb (lowestOf f ds) 8

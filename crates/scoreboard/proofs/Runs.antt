@@ -112,11 +112,11 @@ module _ (objects : List Object) where
           absurd (n (ap (λ (r : Ran). stateAt (r .states) k) (run-off e es i states (eqb-false (number states e) 0 p)) ∙ z))
 
   -- of a whole run: states begin 0
-  begun-zero : (states : List ℕ) (k : ℕ) → k < length objects → stateAt (begun objects states) k ≡ 0
+  begun-zero : (states : List ℕ) (k : ℕ) → k < length objects → stateAt (begun (length objects) states) k ≡ 0
   unfolding begun
   begun-zero states k h =
       List·getD-append (replicate (length objects) 0) (drop (length objects) states) 0 k (subst⁻¹ (λ (n : ℕ). k < n) (length-replicate (length objects) 0) h)
       ∙ getD-replicate (length objects) k 0 0 h
 
-  pub ran-started : (events states : List ℕ) (k : ℕ) → k < length objects → (stateAt (ran objects events states .states) k ≡ 0 → ⊥) → Started objects events 0 (begun objects states) k
-  ran-started events states k h n = started events 0 (begun objects states) k (begun-zero states k h) n
+  pub ran-started : (events states : List ℕ) (k : ℕ) → k < length objects → (stateAt (ran objects events states .states) k ≡ 0 → ⊥) → Started objects events 0 (begun (length objects) states) k
+  ran-started events states k h n = started events 0 (begun (length objects) states) k (begun-zero states k h) n

@@ -9,11 +9,9 @@ use lib.Dec.{T, ltb, ltb→lt}
 use lib.IntN.{ℤ, pos, negsuc}
 use borrow.Author.Tests.{ltb-true, ltb-false, lt-ltb, eqb-true, eqb-false, eq-eqb, ne-eqb, not-true}
 use Rattle.laws.specs.BitRanges.{bits, field}
-use Rattle.command.specs.Fields as fields
-use Rattle.command.specs.Fields.{dword}
 use Rattle.scoreboard.specs.InPlay.{bitSet, usesScoreboard, those, eight, setInBoth, inPlayOf}
 use Rattle.scoreboard.specs.Whole.{eqZ}
-use Rattle.scoreboard.specs.Objects.{Delta, Object, reaches, meetsAt, meets, deltaAt, objectOf}
+use Rattle.scoreboard.specs.Objects.{Delta, Object, reaches, meetsAt, meets, deltaAt, objectWith}
 use Rattle.scoreboard.specs.Run.{objectAt, stateAt, someOf, lowestOf, waitsFor}
 use Rattle.scoreboard.specs.Waits.{Leads, Waits}
 use Rattle.laws.proofs.Tests.{both-left, both-right}
@@ -162,22 +160,22 @@ abbrev allBelow : List ℕ → Bool
 allBelow [] = true
 allBelow (i ∷ is) = ltb i 8 && allBelow is
 
-index-below : (v : List ℕ) (f : ℕ → Bool) (is : List ℕ) → T (allBelow is) → (d : Delta) → List·Memᴰ d (map (deltaAt v) (those f is)) → d .index < 8
-index-below v f [] t d m = absurd (List·Memᴰ·not-nil m)
-index-below v f (i ∷ is) t d m = go (f i) (index-below v f is (both-right (ltb i 8) (allBelow is) t) d) m
+index-below : (d6 d7 : ℕ) (f : ℕ → Bool) (is : List ℕ) → T (allBelow is) → (d : Delta) → List·Memᴰ d (map (deltaAt d6 d7) (those f is)) → d .index < 8
+index-below d6 d7 f [] t d m = absurd (List·Memᴰ·not-nil m)
+index-below d6 d7 f (i ∷ is) t d m = go (f i) (index-below d6 d7 f is (both-right (ltb i 8) (allBelow is) t) d) m
   where
-    go : (b : Bool) → (List·Memᴰ d (map (deltaAt v) (those f is)) → d .index < 8) → List·Memᴰ d (map (deltaAt v) (cond b (i ∷ those f is) (those f is))) → d .index < 8
+    go : (b : Bool) → (List·Memᴰ d (map (deltaAt d6 d7) (those f is)) → d .index < 8) → List·Memᴰ d (map (deltaAt d6 d7) (cond b (i ∷ those f is) (those f is))) → d .index < 8
     go false ih m = ih m
     go true ih m = at (List·Memᴰ·cases-cons m)
       where
-        at : (d ≡ deltaAt v i) ⊎ List·Memᴰ d (map (deltaAt v) (those f is)) → d .index < 8
+        at : (d ≡ deltaAt d6 d7 i) ⊎ List·Memᴰ d (map (deltaAt d6 d7) (those f is)) → d .index < 8
         at (inl q) = subst⁻¹ (λ (x : ℕ). x < 8) (ap (λ (x : Delta). x .index) q) (ltb→lt i 8 (both-left (ltb i 8) (allBelow is) t))
         at (inr n) = ih n
 
-pub object-eight : (h v : List ℕ) (d : Delta) → List·Memᴰ d (objectOf h v .inPlay) → d .index < 8
-unfolding objectOf inPlayOf setInBoth
-object-eight h v d m = go (usesScoreboard (fields.usesScoreboard h) (dword v 5)) m
+pub object-eight : (x y colour own mask d5 d6 d7 : ℕ) (d : Delta) → List·Memᴰ d (objectWith x y colour own mask d5 d6 d7 .inPlay) → d .index < 8
+unfolding objectWith inPlayOf setInBoth
+object-eight x y colour own mask d5 d6 d7 d m = go (usesScoreboard own d5) m
   where
-    go : (t : Bool) → List·Memᴰ d (map (deltaAt v) (cond t (setInBoth (fields.scoreboardMask h) (field (bits 7 0) (dword v 5))) [])) → d .index < 8
-    go true m = index-below v (λ i. bitSet i (fields.scoreboardMask h) && bitSet i (field (bits 7 0) (dword v 5))) eight tt d m
+    go : (t : Bool) → List·Memᴰ d (map (deltaAt d6 d7) (cond t (setInBoth mask (field (bits 7 0) d5)) [])) → d .index < 8
+    go true m = index-below d6 d7 (λ i. bitSet i mask && bitSet i (field (bits 7 0) d5)) eight tt d m
     go false m = absurd (List·Memᴰ·not-nil m)

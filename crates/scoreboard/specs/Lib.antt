@@ -5,3 +5,6 @@ pub mod Objects
 pub mod Lowest
 pub mod Run
 pub mod Waits
+pub mod Answers
+pub mod Recorded
+pub mod Starts

@@ -1,10 +1,13 @@
 -- The objects of a batch, as document 01, "Who waits for whom", speaks of them: no records and no dwords.
 use Prim.Native.Nat.{ℕ}
-use mathlib.Core.Bool.{Bool, _&&_}
-use mathlib.Core.List.{List, map}
+use mathlib.Core.Bool.{Bool, cond, _&&_}
+use mathlib.Core.List.{List, [], _∷_, map}
+use lib.Dec.{eqb}
 use lib.IntN.{ℤ, pos, _+ℤ_}
 use Rattle.command.specs.Fields as fields
 use Rattle.command.specs.Fields.{dword}
+use Rattle.command.specs.Order.{Command}
+use Rattle.batch.specs.Vfes.{commandNumber}
 use Rattle.scoreboard.specs.Whole.{eqZ}
 use Rattle.scoreboard.specs.Deltas.{deltaX, deltaY}
 use Rattle.scoreboard.specs.InPlay.{usesScoreboard, typeOf, inPlayOf}
@@ -38,19 +41,29 @@ meetsAt x y dx dy jx jy = reaches x dx jx && reaches y dy jy
 abbrev pub meets : Object → Object → Delta → Bool
 meets k j d = meetsAt (k .x) (k .y) (d .dx) (d .dy) (j .x) (j .y)
 
--- Below, h are an OBJECT's own dwords, and v those of its VFE.
+-- delta i of a VFE with dwords 6 and 7
+abbrev pub deltaAt : ℕ → ℕ → ℕ → Delta
+deltaAt d6 d7 i = record { index = i; dx = deltaX d6 d7 i; dy = deltaY d6 d7 i }
 
-abbrev pub deltaAt : List ℕ → ℕ → Delta
-deltaAt v i = record { index = i; dx = deltaX (dword v 6) (dword v 7) i; dy = deltaY (dword v 6) (dword v 7) i }
-
--- the object of an OBJECT command
-unfoldable pub objectOf : List ℕ → List ℕ → Object
-objectOf h v =
+-- the object at (x, y) with its colour, own scoreboard bit and mask, under a VFE with dwords 5, 6 and 7
+unfoldable pub objectWith : (x y colour own mask d5 d6 d7 : ℕ) → Object
+objectWith x y colour own mask d5 d6 d7 =
     record {
-      x = fields.positionX h;
-      y = fields.positionY h;
-      colour = fields.colour h;
-      uses = usesScoreboard (fields.usesScoreboard h) (dword v 5);
-      type = typeOf (dword v 5);
-      inPlay = map (deltaAt v) (inPlayOf (fields.usesScoreboard h) (fields.scoreboardMask h) (dword v 5));
+      x = x;
+      y = y;
+      colour = colour;
+      uses = usesScoreboard own d5;
+      type = typeOf d5;
+      inPlay = map (deltaAt d6 d7) (inPlayOf own mask d5);
     }
+
+-- the object of an OBJECT with own dwords h, under a VFE with own dwords v
+abbrev pub objectOf : List ℕ → List ℕ → Object
+objectOf h v =
+    objectWith (fields.positionX h) (fields.positionY h) (fields.colour h) (fields.usesScoreboard h) (fields.scoreboardMask h) (dword v 5) (dword v 6) (dword v 7)
+
+-- The objects of a batch: one for each OBJECT of the commands passed, each with its VFE, which the command names by its record number.
+-- "Numbering starts at 0": object k is the k-th of the list.
+unfoldable pub objectsOf : List Command → List Command → List Object
+objectsOf all [] = []
+objectsOf all (c ∷ cs) = cond (eqb (c .kind) 7) (objectOf (c .head) (commandNumber all (c .vfe) .head) ∷ objectsOf all cs) (objectsOf all cs)

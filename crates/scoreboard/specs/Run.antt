@@ -111,8 +111,11 @@ module _ (objects : List Object) (states : List ℕ) (e : ℕ) where
   verdictOf = firstRow rows
 
 -- what an event with no fault does: a start leaves 1, running, and a finish 2, finished
+abbrev pub stateLeft : ℕ → ℕ
+stateLeft e = cond (starts e) 1 2
+
 unfoldable pub after : List ℕ → ℕ → List ℕ
-after states e = set states (objectOfEvent e) (cond (starts e) 1 2)
+after states e = set states (objectOfEvent e) (stateLeft e)
 
 -- what a run ends with
 pub record Ran : Type 0 where
@@ -129,9 +132,9 @@ runFrom objects (e ∷ es) i states =
     (runFrom objects es (i + 1) (after states e))
     (record { verdict = verdictOf objects states e; position = i; states = states })
 
--- "states begin 0"; "State bytes past the objects never change."
-unfoldable pub begun : List Object → List ℕ → List ℕ
-begun objects states = replicate (length objects) 0 ++ drop (length objects) states
+-- "states begin 0"; "State bytes past the objects never change": there are n objects
+unfoldable pub begun : ℕ → List ℕ → List ℕ
+begun n states = replicate n 0 ++ drop n states
 
 abbrev pub ran : List Object → List ℕ → List ℕ → Ran
-ran objects events states = runFrom objects events 0 (begun objects states)
+ran objects events states = runFrom objects events 0 (begun (length objects) states)

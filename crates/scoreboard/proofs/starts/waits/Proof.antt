@@ -1,0 +1,77 @@
+use borrow.Author.Needs.{needs}
+use Prim.Native.Nat.{_-_, _≤_}
+use Rattle.words.specs.Dwords.{dwordsIn}
+use Rattle.laws.specs.Find.{NoneBelow}
+use Rattle.scoreboard.specs.Run.{waitsFor}
+use Rattle.scoreboard.specs.Recorded.{objectsRecorded, Spotted}
+use Rattle.scoreboard.proofs.Spots.{walk-in, walks}
+use Rattle.scoreboard.proofs.Searches.{waits-laws}
+use Rattle.scoreboard.proofs.starts.waits.Statement.{statement}
+use Rattle.scoreboard.proofs.starts.waits.Tie as tie
+
+abbrev Inv-loop : tie.InvT-loop
+Inv-loop rd rb n states k own c j₀ at₀ j at = (j ≤ k) × Spotted (dwordsIn rd rb) n j at × NoneBelow (waitsFor (objectsRecorded (dwordsIn rd rb) 0 n) states k) j
+
+abbrev μ-loop : tie.MeasureT-loop
+μ-loop rd rb n states k own c j₀ at₀ j at = k - j
+
+candidate-requires : tie.Need-candidate-requires Inv-loop μ-loop
+candidate-requires c κs = search needs
+
+loop-holds : tie.Need-loop-holds Inv-loop μ-loop
+loop-holds c = (search needs, search needs, search waits-laws)
+
+object-from-requires : tie.Need-object-from-requires Inv-loop μ-loop
+object-from-requires c κs = search needs
+
+shared-slice-read-delta-at : tie.Need-shared-slice-read-delta-at Inv-loop μ-loop
+shared-slice-read-delta-at c = search needs
+
+delta-at-requires : tie.Need-delta-at-requires Inv-loop μ-loop
+delta-at-requires c κs =
+    let l = c .before .before .before .loop in
+    let p = c .before .before .before .before .before .before .before .before .pre in
+    search (needs, walk-in _ _ _ _ _ _ (l .inv .1) (p .5) (c .before .object-from .ensures) (c .before .before .loop-test .taken))
+
+cast-t16 : tie.Need-cast-t16 Inv-loop μ-loop
+cast-t16 c = search needs
+
+returns : tie.Need-returns Inv-loop μ-loop
+returns c = search waits-laws
+
+add-at : tie.Need-add-at Inv-loop μ-loop
+add-at c =
+    let l = c .before .before .before .before .before .loop in
+    let p = c .before .before .before .before .before .before .before .before .before .before .pre in
+    search (needs, walk-in _ _ _ _ _ _ (l .inv .1) (p .5) (c .before .before .before .object-from .ensures) (c .before .before .before .before .loop-test .taken))
+
+add-j : tie.Need-add-j Inv-loop μ-loop
+add-j c = search needs
+
+loop-less : tie.Need-loop-less Inv-loop μ-loop
+loop-less c = search needs
+
+loop-again : tie.Need-loop-again Inv-loop μ-loop
+loop-again c = (search needs, search walks, search waits-laws)
+
+returns-2 : tie.Need-returns-2 Inv-loop μ-loop
+returns-2 c = search waits-laws
+
+pub waits-spec : {M : Type 1} → statement M
+waits-spec =
+    tie.close
+    (tie.spec
+    Inv-loop
+    μ-loop
+    candidate-requires
+    loop-holds
+    object-from-requires
+    shared-slice-read-delta-at
+    delta-at-requires
+    cast-t16
+    returns
+    add-at
+    add-j
+    loop-less
+    loop-again
+    returns-2)

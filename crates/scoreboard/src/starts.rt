@@ -1,0 +1,162 @@
+// The judge of a start: rows 24 and 25. Below, the records hold the objects, and the state bytes are one for each object or more.
+ghost use mathlib.Core.Path.{_≡_};
+ghost use Prim.Native.Nat.{_+_, _*_, _^_, _<_, _≤_, min};
+ghost use mathlib.Core.Bool.{_&&_};
+ghost use lib.Dec.{ltb};
+ghost use lib.ListN.{length};
+ghost use Rattle.words.specs.Dwords.{dwordsIn};
+ghost use Rattle.laws.specs.Find.{NoneBelow};
+ghost use Rattle.scoreboard.specs.Run.{stateAt, lowestWaiting};
+ghost use Rattle.scoreboard.specs.Recorded.{objectsRecorded, Spotted, Holds, stallsAt, deltaIn};
+ghost use Rattle.scoreboard.specs.Starts.{waitVerdict, startVerdict, waitingAt, unfinishedAt, nearestOf, Sound};
+use crate::Candidate;
+use crate::Cursors;
+use crate::Judged;
+use crate::Spot;
+use crate::Verdict;
+use crate::recorded::candidate;
+use crate::recorded::delta_to;
+use crate::recorded::object_from;
+use crate::recorded::stalls;
+
+// The lowest object below k in state 0, or where the search stopped at k or past it; below `from` there is none.
+fn lowest_waiting(states: &[u8], from: usize, k: usize) -> usize
+    requires { ⌜ (k ≤ length (now states)) × NoneBelow (waitingAt (now states)) from ⌝ }
+    ensures { λ j. ⌜ NoneBelow (waitingAt (now (states .entry))) j × (min j k ≡ lowestWaiting (now (states .entry)) k) ⌝ }
+{
+    let mut j = from;
+    while j < k {
+        if states[j] == 0 {
+            return j;
+        }
+        j += 1;
+    }
+    j
+}
+
+// The record of object k, by a walk from a spot at or before it.
+fn record_of(rd: &[u32], rb: &[u8], n: usize, from: Spot, k: usize) -> usize
+    requires { ⌜ (16 * n ≤ length (dwordsIn (now rd) (now rb))) × (n ≤ 16384) × Spotted (dwordsIn (now rd) (now rb)) n (from .object) (from .at) × (from .object ≤ k) × (k < length (objectsRecorded (dwordsIn (now rd) (now rb)) 0 n)) ⌝ }
+    ensures { λ r. ⌜ Holds (dwordsIn (now (rd .entry)) (now (rb .entry))) n k r ⌝ }
+{
+    let mut j = from.object;
+    let mut at = from.at;
+    while j < k {
+        at = object_from(rd, rb, n, at) + 1;
+        j += 1;
+    }
+    object_from(rd, rb, n, at)
+}
+
+// The first unfinished object, or k where all below it are finished.
+fn first_unfinished(rd: &[u32], rb: &[u8], n: usize, states: &[u8], from: Spot, k: usize) -> Spot
+    requires { ⌜ (16 * n ≤ length (dwordsIn (now rd) (now rb))) × (n ≤ 16384) × Spotted (dwordsIn (now rd) (now rb)) n (from .object) (from .at) × NoneBelow (unfinishedAt (now states)) (from .object) × (from .object ≤ k) × (k < length (objectsRecorded (dwordsIn (now rd) (now rb)) 0 n)) × (length (objectsRecorded (dwordsIn (now rd) (now rb)) 0 n) ≤ length (now states)) ⌝ }
+    ensures { λ s. ⌜ Spotted (dwordsIn (now (rd .entry)) (now (rb .entry))) n (s .object) (s .at) × NoneBelow (unfinishedAt (now (states .entry))) (s .object) × (s .object ≤ k) ⌝ }
+{
+    let mut j = from.object;
+    let mut at = from.at;
+    while j < k {
+        if states[j] != 2 {
+            return Spot { object: j, at };
+        }
+        at = object_from(rd, rb, n, at) + 1;
+        j += 1;
+    }
+    Spot { object: j, at }
+}
+
+// The lowest delta of the candidate at the object of record r, which is in a state; 8 where that one is finished.
+fn delta_at(rd: &[u32], rb: &[u8], c: Candidate, r: usize, state: u8) -> u32
+    requires { ⌜ (16 * r + 16 ≤ length (dwordsIn (now rd) (now rb))) × (r < 16384) ⌝ }
+    ensures { λ i. ⌜ i ≡ deltaIn (dwordsIn (now (rd .entry)) (now (rb .entry))) c r state ⌝ }
+{
+    if state == 2 {
+        return 8;
+    }
+    delta_to(rd, rb, c, r)
+}
+
+// Row 25: the lowest object that object k, of record own, waits for. Below the spot all are finished.
+fn waits(
+    rd: &[u32],
+    rb: &[u8],
+    n: usize,
+    states: &[u8],
+    from: Spot,
+    k: usize,
+    own: usize,
+) -> Verdict
+    requires { ⌜ (16 * n ≤ length (dwordsIn (now rd) (now rb))) × (n ≤ 16384) × Spotted (dwordsIn (now rd) (now rb)) n (from .object) (from .at) × NoneBelow (unfinishedAt (now states)) (from .object) × (from .object ≤ k) × (k < length (objectsRecorded (dwordsIn (now rd) (now rb)) 0 n)) × (length (objectsRecorded (dwordsIn (now rd) (now rb)) 0 n) ≤ length (now states)) × (k < 2 ^ 31) × Holds (dwordsIn (now rd) (now rb)) n k own ⌝ }
+    ensures { λ v. ⌜ v ≡ waitVerdict (objectsRecorded (dwordsIn (now (rd .entry)) (now (rb .entry))) 0 n) (now (states .entry)) k ⌝ }
+{
+    let c = candidate(rd, rb, own);
+    let mut j = from.object;
+    let mut at = from.at;
+    while j < k {
+        let r = object_from(rd, rb, n, at);
+        let i = delta_at(rd, rb, c, r, states[j]);
+        if i < 8 {
+            return Verdict {
+                number: 25,
+                object: j as u32,
+                delta: i,
+            };
+        }
+        at = r + 1;
+        j += 1;
+    }
+    Verdict {
+        number: 0,
+        object: 0,
+        delta: 0,
+    }
+}
+
+// Row 24, where the object of record r is to start: object w, in state 0, is before k.
+fn stalled(rd: &[u32], rb: &[u8], r: usize, w: usize, k: usize) -> bool
+    requires { ⌜ (16 * r + 16 ≤ length (dwordsIn (now rd) (now rb))) × (r < 16384) ⌝ }
+    ensures { λ t. ⌜ t ≡ (stallsAt (dwordsIn (now (rd .entry)) (now (rb .entry))) r && ltb w k) ⌝ }
+{
+    if w < k {
+        return stalls(rd, rb, r);
+    }
+    false
+}
+
+// The nearest spot before object k, which is in state 0.
+fn nearest(c: Cursors, k: usize) -> Spot
+    ensures { λ s. ⌜ s ≡ nearestOf c k ⌝ }
+{
+    if c.last.object <= k {
+        return c.last;
+    }
+    c.unfinished
+}
+
+// Rows 24 and 25 for object k, which is in state 0.
+pub fn start(rd: &[u32], rb: &[u8], n: usize, states: &[u8], k: usize, c: Cursors) -> Judged
+    requires { ⌜ (16 * n ≤ length (dwordsIn (now rd) (now rb))) × (n ≤ 16384) × (k < length (objectsRecorded (dwordsIn (now rd) (now rb)) 0 n)) × (length (objectsRecorded (dwordsIn (now rd) (now rb)) 0 n) ≤ length (now states)) × (k < 2 ^ 31) × (stateAt (now states) k ≡ 0) × Sound (dwordsIn (now rd) (now rb)) n (now states) c ⌝ }
+    ensures { λ r. ⌜ (r .verdict ≡ startVerdict (objectsRecorded (dwordsIn (now (rd .entry)) (now (rb .entry))) 0 n) (now (states .entry)) k) × Sound (dwordsIn (now (rd .entry)) (now (rb .entry))) n (now (states .entry)) (r .cursors) ⌝ }
+{
+    let w = lowest_waiting(states, c.waiting, k);
+    let own = record_of(rd, rb, n, nearest(c, k), k);
+    if stalled(rd, rb, own, w, k) {
+        return Judged {
+            verdict: Verdict {
+                number: 24,
+                object: w as u32,
+                delta: 0,
+            },
+            cursors: c,
+        };
+    }
+    let u = first_unfinished(rd, rb, n, states, c.unfinished, k);
+    Judged {
+        verdict: waits(rd, rb, n, states, u, k, own),
+        cursors: Cursors {
+            waiting: w,
+            unfinished: u,
+            last: Spot { object: k, at: own },
+        },
+    }
+}
