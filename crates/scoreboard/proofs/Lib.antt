@@ -5,6 +5,7 @@ pub mod Waits
 pub mod Named
 pub mod Runs
 pub mod Lowest
+pub mod Far
 pub mod RecordWords
 pub mod Spots
 pub mod Searches

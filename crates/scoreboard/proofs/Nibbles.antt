@@ -59,15 +59,21 @@ by-half z w d h l e f g =
     ∙ toZ-ofZ {w = w32} {z = deltaOf (field (bits 3 0) (w / 2 ^ l))} (record { sfits = omega (arith, delta-mag (field (bits 3 0) (w / 2 ^ l)) (low-half (w / 2 ^ l))) })
     ∙ ap deltaOf (shifted h l w f ∙ ap (field (bits h l)) e)
 
--- a delta fits 32 bits
-small : (h l d : ℕ) → h ≡ l + 3 → SFits w32 (deltaOf (field (bits h l) d))
-small h l d e = record { sfits = omega (arith, delta-mag (field (bits h l) d) (subst (λ (n : ℕ). n < 16) (shifted h l d e) (low-half (d / 2 ^ l)))) }
+-- a delta is from -8 to 7, and fits 32 bits
+small : (h l d : ℕ) → h ≡ l + 3 → mag (deltaOf (field (bits h l) d)) < 8
+small h l d e = delta-mag (field (bits h l) d) (subst (λ (n : ℕ). n < 16) (shifted h l d e) (low-half (d / 2 ^ l)))
 
 module _ (d6 d7 i : ℕ) where
-  pub x-fits : SFits w32 (deltaX d6 d7 i)
+  pub x-small : mag (deltaX d6 d7 i) < 8
   unfolding deltaX
-  x-fits = small (byteLow i + 3) (byteLow i) (deltaDword d6 d7 i) refl
+  x-small = small (byteLow i + 3) (byteLow i) (deltaDword d6 d7 i) refl
+
+  pub y-small : mag (deltaY d6 d7 i) < 8
+  unfolding deltaY
+  y-small = small (byteLow i + 7) (byteLow i + 4) (deltaDword d6 d7 i) (omega arith)
+
+  pub x-fits : SFits w32 (deltaX d6 d7 i)
+  x-fits = record { sfits = omega (arith, x-small) }
 
   pub y-fits : SFits w32 (deltaY d6 d7 i)
-  unfolding deltaY
-  y-fits = small (byteLow i + 7) (byteLow i + 4) (deltaDword d6 d7 i) (omega arith)
+  y-fits = record { sfits = omega (arith, y-small) }

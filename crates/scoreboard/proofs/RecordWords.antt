@@ -1,6 +1,6 @@
 -- What the reading of a record's words shows. Assumes nothing.
 use mathlib.Core.Path.{_≡_, refl, sym, ap, ap₂, _∙_}
-use mathlib.Core.Bool.{Bool, true, false, not, _&&_}
+use mathlib.Core.Bool.{Bool, true, false, not, cond, _&&_}
 use mathlib.Core.List.{List}
 use Prim.Native.Nat.{ℕ, _+_, _-_, _<_, _≤_}
 use native.Mathlib.Omega.{arith}
@@ -12,7 +12,8 @@ use Rattle.laws.proofs.Find.{hit, miss, over}
 use Rattle.batch.specs.Records.{slot}
 use Rattle.scoreboard.specs.declared.Candidate.{Candidate}
 use Rattle.scoreboard.specs.InPlay.{usesScoreboard, typeOf, joinedMask}
-use Rattle.scoreboard.specs.Lowest.{lowestAt}
+use Rattle.scoreboard.specs.Lowest.{lowestAt, nearAt}
+use Rattle.scoreboard.proofs.Far.{far-x, far-y}
 use Rattle.scoreboard.specs.Recorded.{wordAt, vfeWordAt, isObject, objectFrom, stallsAt, candidateOf, deltaTo, deltaIn}
 
 pub word-is : (d : List ℕ) (r f i w : ℕ) → i ≡ slot r f → w ≡ getD d i 0 → w ≡ wordAt d r f
@@ -65,23 +66,43 @@ module _ (d : List ℕ) (r own d5 : ℕ) (u : Bool) (eo : own ≡ wordAt d r 4) 
       ap (λ (x : ℕ). eqb x 0) (e ∙ ap typeOf e5)
       ∙ sym (ap (λ (b : Bool). b && eqb (typeOf (vfeWordAt d r 8)) 0) (used q))
 
-  -- and those of 25 on an object that a candidate may wait for
-  module _ (c : Candidate) where
+  -- and of 25 on an object that a candidate may wait for
+  module _ (c : Candidate) (colour : ℕ) (ec : colour ≡ wordAt d r 9) (same : colour ≡ c .colour) where
     pub delta-unused : not u ≡ true → 8 ≡ deltaTo d c r
     unfolding deltaTo
     delta-unused q = simp (unused q)
 
-    module _ (colour : ℕ) (ec : colour ≡ wordAt d r 9) where
-      pub delta-other : not u ≡ false → (colour ≡ c .colour → ⊥) → 8 ≡ deltaTo d c r
-      unfolding deltaTo
-      delta-other q n = simp (used q, ne-eqb (wordAt d r 9) (c .colour) (λ z. n (ec ∙ z)))
+    pub delta-there : (i jx jy : ℕ) → not u ≡ false → jx ≡ wordAt d r 7 → jy ≡ wordAt d r 8 → i ≡ lowestAt (c .x) (c .y) (c .mask) (c .d6) (c .d7) jx jy → i ≡ deltaTo d c r
+    unfolding deltaTo
+    delta-there i jx jy q ex ey e =
+        e ∙ ap₂ (lowestAt (c .x) (c .y) (c .mask) (c .d6) (c .d7)) ex ey ∙ simp (used q, eq-eqb (wordAt d r 9) (c .colour) (sym ec ∙ same))
 
-      pub delta-there : (i jx jy : ℕ) → not u ≡ false → colour ≡ c .colour → jx ≡ wordAt d r 7 → jy ≡ wordAt d r 8
-          → i ≡ lowestAt (c .x) (c .y) (c .mask) (c .d6) (c .d7) jx jy → i ≡ deltaTo d c r
-      unfolding deltaTo
-      delta-there i jx jy q s ex ey e =
-          e ∙ ap₂ (lowestAt (c .x) (c .y) (c .mask) (c .d6) (c .d7)) ex ey
-          ∙ simp (used q, eq-eqb (wordAt d r 9) (c .colour) (sym ec ∙ s))
+-- the tests of 25 that need less: other colours, and what is too far off
+pub delta-other : (d : List ℕ) (r : ℕ) (c : Candidate) (colour : ℕ) → colour ≡ wordAt d r 9 → (colour ≡ c .colour → ⊥) → 8 ≡ deltaTo d c r
+unfolding deltaTo
+delta-other d r c colour e n = go (usesScoreboard (wordAt d r 4) (vfeWordAt d r 8)) (ne-eqb (wordAt d r 9) (c .colour) (λ z. n (e ∙ z)))
+  where
+    go : (t : Bool) → eqb (wordAt d r 9) (c .colour) ≡ false
+        → 8 ≡ cond (t && eqb (wordAt d r 9) (c .colour)) (lowestAt (c .x) (c .y) (c .mask) (c .d6) (c .d7) (wordAt d r 7) (wordAt d r 8)) 8
+    go true q = simp q
+    go false q = refl
+
+either : (t : Bool) (l : ℕ) → l ≡ 8 → 8 ≡ cond t l 8
+either true l e = sym e
+either false l e = refl
+
+module _ (d : List ℕ) (r : ℕ) (c : Candidate) (b : Bool) where
+  pub delta-far-x : (jx : ℕ) → jx ≡ wordAt d r 7 → b ≡ nearAt (c .x) jx → not b ≡ true → 8 ≡ deltaTo d c r
+  unfolding deltaTo
+  delta-far-x jx ex eb q =
+      either (usesScoreboard (wordAt d r 4) (vfeWordAt d r 8) && eqb (wordAt d r 9) (c .colour)) _
+      (far-x (c .x) (c .y) (c .mask) (c .d6) (c .d7) (wordAt d r 7) (wordAt d r 8) (ap (nearAt (c .x)) (sym ex) ∙ sym eb ∙ not-true b q))
+
+  pub delta-far-y : (jy : ℕ) → jy ≡ wordAt d r 8 → b ≡ nearAt (c .y) jy → not b ≡ true → 8 ≡ deltaTo d c r
+  unfolding deltaTo
+  delta-far-y jy ey eb q =
+      either (usesScoreboard (wordAt d r 4) (vfeWordAt d r 8) && eqb (wordAt d r 9) (c .colour)) _
+      (far-y (c .x) (c .y) (c .mask) (c .d6) (c .d7) (wordAt d r 7) (wordAt d r 8) (ap (nearAt (c .y)) (sym ey) ∙ sym eb ∙ not-true b q))
 
 pub delta-finished : (d : List ℕ) (c : Candidate) (r s : ℕ) → s ≡ 2 → 8 ≡ deltaIn d c r s
 unfolding deltaIn

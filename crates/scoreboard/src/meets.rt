@@ -2,7 +2,7 @@
 ghost use mathlib.Core.Path.{_≡_};
 ghost use Prim.Native.Nat.{_<_};
 ghost use Rattle.scoreboard.specs.Objects.{reaches, meetsAt};
-ghost use Rattle.scoreboard.specs.Lowest.{leadsAt, lowestAt};
+ghost use Rattle.scoreboard.specs.Lowest.{leadsAt, lowestAt, nearAt};
 use crate::deltas::delta_x;
 use crate::deltas::delta_y;
 
@@ -35,6 +35,16 @@ fn leads(x: u32, y: u32, mask: u32, d6: u32, d7: u32, i: u32, jx: u32, jy: u32) 
     let dx = delta_x(d6, d7, i);
     let dy = delta_y(d6, d7, i);
     meets(x, y, dx, dy, jx, jy)
+}
+
+// Is a coordinate within a delta's reach of another? Most objects are not, and need no more tests.
+pub fn near(x: u32, to: u32) -> bool
+    ensures { λ r. ⌜ r ≡ nearAt x to ⌝ }
+{
+    if to as u64 + 8 < x as u64 {
+        return false;
+    }
+    (to as u64) < x as u64 + 8
 }
 
 // The lowest delta of a mask that leads from (x, y) to (jx, jy), 8 where none does.

@@ -9,6 +9,7 @@ use crate::in_play::joined_mask;
 use crate::in_play::scoreboard_type;
 use crate::in_play::uses_scoreboard;
 use crate::meets::lowest_delta;
+use crate::meets::near;
 use batch::slot_of;
 use words::held;
 use words::word;
@@ -84,19 +85,19 @@ pub fn delta_to(rd: &[u32], rb: &[u8], c: Candidate, r: usize) -> u32
     requires { ⌜ (16 * r + 16 ≤ length (dwordsIn (now rd) (now rb))) × (r < 16384) ⌝ }
     ensures { λ i. ⌜ i ≡ deltaTo (dwordsIn (now (rd .entry)) (now (rb .entry))) c r ⌝ }
 {
-    if !uses_scoreboard(record_word(rd, rb, r, 4), vfe_word(rd, rb, r, 8)) {
+    let jx = record_word(rd, rb, r, 7);
+    if !near(c.x, jx) {
+        return 8;
+    }
+    let jy = record_word(rd, rb, r, 8);
+    if !near(c.y, jy) {
         return 8;
     }
     if record_word(rd, rb, r, 9) != c.colour {
         return 8;
     }
-    lowest_delta(
-        c.x,
-        c.y,
-        c.mask,
-        c.d6,
-        c.d7,
-        record_word(rd, rb, r, 7),
-        record_word(rd, rb, r, 8),
-    )
+    if !uses_scoreboard(record_word(rd, rb, r, 4), vfe_word(rd, rb, r, 8)) {
+        return 8;
+    }
+    lowest_delta(c.x, c.y, c.mask, c.d6, c.d7, jx, jy)
 }
