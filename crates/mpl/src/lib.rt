@@ -1,6 +1,6 @@
 // What C links: the checks over numbers and slices (include/mpl.h), and nothing else.
 ghost use mathlib.Core.Path.{_≡_};
-ghost use Rattle.scoreboard.specs.InPlay.{inPlay, counted};
+ghost use Rattle.deltas.specs.InPlay.{inPlay, counted};
 ghost use Rattle.batch.specs.Answers.{answerOf, recordsOf, bytesAnswerOf, bytesRecordsOf};
 ghost use Rattle.scoreboard.specs.Answers as order;
 
@@ -30,10 +30,10 @@ pub extern "C" fn mpl_deltas_in_play(
     object_dword_2: u32,
     vfe_dword_5: u32,
     object_dword_5: u32,
-) -> scoreboard::InPlay
+) -> deltas::InPlay
     ensures { λ r. ⌜ r ≡ counted (inPlay object_dword_2 vfe_dword_5 object_dword_5) ⌝ }
 {
-    scoreboard::in_play::deltas_in_play(object_dword_2, vfe_dword_5, object_dword_5)
+    deltas::in_play::deltas_in_play(object_dword_2, vfe_dword_5, object_dword_5)
 }
 
 // The order check over little-endian bytes.

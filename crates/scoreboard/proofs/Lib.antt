@@ -1,11 +1,7 @@
-pub mod Signed
-pub mod Nibbles
-pub mod Masks
 pub mod Waits
 pub mod Named
 pub mod Runs
 pub mod Lowest
-pub mod Far
 pub mod RecordWords
 pub mod Spots
 pub mod Searches

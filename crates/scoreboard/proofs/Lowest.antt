@@ -13,35 +13,16 @@ use mir.Val.{toZ, ofZ}
 use mir.Facts.{toZ-ofZ}
 use Rattle.laws.specs.BitRanges.{bits, field}
 use Rattle.laws.proofs.BitRanges.{taken}
-use Rattle.scoreboard.specs.Deltas.{deltaX, deltaY}
-use Rattle.scoreboard.specs.InPlay.{bitSet, those, joinedMask}
-use Rattle.scoreboard.specs.Objects.{Delta, Object, meetsAt, meets, deltaAt, objectWith}
+use Rattle.deltas.specs.Deltas.{deltaX, deltaY}
+use Rattle.deltas.specs.InPlay.{bitSet, those, joinedMask}
+use Rattle.deltas.specs.Meets.{meetsAt}
+use Rattle.scoreboard.specs.Objects.{Delta, Object, meets, deltaAt, objectWith}
 use Rattle.laws.specs.Find.{firstFrom, findFirst}
 use Rattle.scoreboard.specs.Run.{someOf, lowestOf}
-use Rattle.scoreboard.specs.Lowest.{leadsAt, lowestAt}
-use Rattle.scoreboard.proofs.Nibbles.{x-fits, y-fits}
-use Rattle.scoreboard.proofs.Masks.{setBits, joined-set}
+use Rattle.deltas.specs.Lowest.{leadsAt, lowestAt}
+use Rattle.deltas.proofs.Nibbles.{x-fits, y-fits}
+use Rattle.deltas.proofs.Masks.{setBits, joined-set}
 use Rattle.scoreboard.proofs.Waits.{some-one, one-some, lowest-le, lowest-one}
-
--- one bit, by shift and mask
-bit : (i m : ℕ) → field (bits i i) m ≡ bitAnd (m / 2 ^ i) 1
-bit i m = let e : i - i + 1 ≡ 1 = omega arith in taken i i m ∙ ap (λ (w : ℕ). bitAnd (m / 2 ^ i) (2 ^ w - 1)) e
-
--- what `leads` shows
-module _ (x y mask d6 d7 jx jy i : ℕ) where
-  pub leads-off : (bitAnd (mask / 2 ^ i) 1 ≡ 1 → ⊥) → false ≡ leadsAt x y mask d6 d7 jx jy i
-  unfolding leadsAt
-  leads-off n = simp (ne-eqb (field (bits i i) mask) 1 (λ e. n (sym (bit i mask) ∙ e)))
-
-  pub leads-on : (b : Bool) (dx dy : ℤ) → bitAnd (mask / 2 ^ i) 1 ≡ 1 → dx ≡ deltaX d6 d7 i → dy ≡ deltaY d6 d7 i
-      → b ≡ meetsAt x y (toZ w32 (ofZ w32 dx)) (toZ w32 (ofZ w32 dy)) jx jy → b ≡ leadsAt x y mask d6 d7 jx jy i
-  unfolding leadsAt
-  leads-on b dx dy e p q r =
-      r
-      ∙ ap₂ (λ (u v : ℤ). meetsAt x y u v jx jy)
-      (ap (λ (z : ℤ). toZ w32 (ofZ w32 z)) p ∙ toZ-ofZ {w = w32} {z = deltaX d6 d7 i} (x-fits d6 d7 i))
-      (ap (λ (z : ℤ). toZ w32 (ofZ w32 z)) q ∙ toZ-ofZ {w = w32} {z = deltaY d6 d7 i} (y-fits d6 d7 i))
-      ∙ sym (ap (λ (t : Bool). t && meetsAt x y (deltaX d6 d7 i) (deltaY d6 d7 i) jx jy) (eq-eqb (field (bits i i) mask) 1 (bit i mask ∙ e)))
 
 -- the deltas of a mask, searched one after the other
 from-ge : (f : ℕ → Bool) (n i : ℕ) → i ≤ firstFrom n f i

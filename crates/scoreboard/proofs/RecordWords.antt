@@ -11,9 +11,9 @@ use Rattle.laws.specs.Find.{firstFrom}
 use Rattle.laws.proofs.Find.{hit, miss, over}
 use Rattle.batch.specs.Records.{slot}
 use Rattle.scoreboard.specs.declared.Candidate.{Candidate}
-use Rattle.scoreboard.specs.InPlay.{usesScoreboard, typeOf, joinedMask}
-use Rattle.scoreboard.specs.Lowest.{lowestAt, nearAt}
-use Rattle.scoreboard.proofs.Far.{far-x, far-y}
+use Rattle.deltas.specs.InPlay.{usesScoreboard, typeOf, joinedMask}
+use Rattle.deltas.specs.Lowest.{lowestAt, nearAt}
+use Rattle.deltas.proofs.Far.{far-x, far-y}
 use Rattle.scoreboard.specs.Recorded.{wordAt, vfeWordAt, isObject, objectFrom, stallsAt, candidateOf, deltaTo, deltaIn}
 
 pub word-is : (d : List ℕ) (r f i w : ℕ) → i ≡ slot r f → w ≡ getD d i 0 → w ≡ wordAt d r f

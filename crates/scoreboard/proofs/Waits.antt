@@ -9,13 +9,14 @@ use lib.Dec.{T, ltb, ltb→lt}
 use lib.IntN.{ℤ, pos, negsuc}
 use borrow.Author.Tests.{ltb-true, ltb-false, lt-ltb, eqb-true, eqb-false, eq-eqb, ne-eqb, not-true}
 use Rattle.laws.specs.BitRanges.{bits, field}
-use Rattle.scoreboard.specs.InPlay.{bitSet, usesScoreboard, those, eight, setInBoth, inPlayOf}
-use Rattle.scoreboard.specs.Whole.{eqZ}
-use Rattle.scoreboard.specs.Objects.{Delta, Object, reaches, meetsAt, meets, deltaAt, objectWith}
+use Rattle.deltas.specs.InPlay.{bitSet, usesScoreboard, those, eight, setInBoth, inPlayOf}
+use Rattle.deltas.specs.Whole.{eqZ}
+use Rattle.deltas.specs.Meets.{reaches, meetsAt}
+use Rattle.scoreboard.specs.Objects.{Delta, Object, meets, deltaAt, objectWith}
 use Rattle.scoreboard.specs.Run.{objectAt, stateAt, someOf, lowestOf, waitsFor}
 use Rattle.scoreboard.specs.Waits.{Leads, Waits}
 use Rattle.laws.proofs.Tests.{both-left, both-right}
-use Rattle.scoreboard.proofs.Signed.{eqZ→eq}
+use Rattle.deltas.proofs.Signed.{eqZ→eq}
 
 pub left : (a b : Bool) → a && b ≡ true → a ≡ true
 left true b e = refl

@@ -1,8 +1,4 @@
-pub mod Whole
-pub mod Deltas
-pub mod InPlay
 pub mod Objects
-pub mod Lowest
 pub mod Run
 pub mod Waits
 pub mod Answers

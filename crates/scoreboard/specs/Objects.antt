@@ -1,16 +1,16 @@
 -- The objects of a batch, as document 01, "Who waits for whom", speaks of them: no records and no dwords.
 use Prim.Native.Nat.{ℕ}
-use mathlib.Core.Bool.{Bool, cond, _&&_}
+use mathlib.Core.Bool.{Bool, cond}
 use mathlib.Core.List.{List, [], _∷_, map}
 use lib.Dec.{eqb}
-use lib.IntN.{ℤ, pos, _+ℤ_}
+use lib.IntN.{ℤ}
 use Rattle.command.specs.Fields as fields
 use Rattle.command.specs.Fields.{dword}
 use Rattle.command.specs.Order.{Command}
 use Rattle.batch.specs.Vfes.{commandNumber}
-use Rattle.scoreboard.specs.Whole.{eqZ}
-use Rattle.scoreboard.specs.Deltas.{deltaX, deltaY}
-use Rattle.scoreboard.specs.InPlay.{usesScoreboard, typeOf, inPlayOf}
+use Rattle.deltas.specs.Meets.{meetsAt}
+use Rattle.deltas.specs.Deltas.{deltaX, deltaY}
+use Rattle.deltas.specs.InPlay.{usesScoreboard, typeOf, inPlayOf}
 
 -- a delta in play: which of the eight it is, and its parts
 pub record Delta : Type 0 where
@@ -28,14 +28,6 @@ pub record Object : Type 0 where
   pub type : ℕ
   -- "the deltas in play"
   pub inPlay : List Delta
-
--- a coordinate plus a part of a delta equals another coordinate, "as whole numbers": a sum that is negative equals none
-unfoldable pub reaches : ℕ → ℤ → ℕ → Bool
-reaches x d to = eqZ (pos x +ℤ d) (pos to)
-
--- from the position (x, y) by the delta (dx, dy) to the position (jx, jy)
-unfoldable pub meetsAt : ℕ → ℕ → ℤ → ℤ → ℕ → ℕ → Bool
-meetsAt x y dx dy jx jy = reaches x dx jx && reaches y dy jy
 
 -- "j's X and Y equal k's plus a delta"
 abbrev pub meets : Object → Object → Delta → Bool

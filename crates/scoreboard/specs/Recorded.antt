@@ -9,9 +9,9 @@ use lib.ListN.{getD, drop}
 use Rattle.laws.specs.Find.{firstFrom}
 use Rattle.batch.specs.Records.{slot}
 use Rattle.scoreboard.specs.declared.Candidate.{Candidate}
-use Rattle.scoreboard.specs.InPlay.{usesScoreboard, typeOf, joinedMask}
+use Rattle.deltas.specs.InPlay.{usesScoreboard, typeOf, joinedMask}
 use Rattle.scoreboard.specs.Objects.{Object, objectWith}
-use Rattle.scoreboard.specs.Lowest.{lowestAt}
+use Rattle.deltas.specs.Lowest.{lowestAt}
 use Rattle.scoreboard.specs.Run.{objectAt}
 
 -- word f of record r

@@ -2,10 +2,7 @@
 ghost use mathlib.Core.Path.{_≡_};
 ghost use Rattle.scoreboard.specs.Answers.{answerOf, recordsOf, statesOf, bytesAnswerOf, bytesRecordsOf, bytesStatesOf};
 
-pub mod deltas;
 pub mod events;
-pub mod in_play;
-pub mod meets;
 pub mod order;
 pub mod recorded;
 pub mod starts;
@@ -15,13 +12,6 @@ pub struct Verdict {
     pub number: u32,
     pub object: u32,
     pub delta: u32,
-}
-
-// The deltas in play: how many of the eight, and the lowest (8 where none is).
-#[repr(C)]
-pub struct InPlay {
-    pub count: u32,
-    pub lowest: u32,
 }
 
 // Number 0: the run was taken to its end, and place is its event count. 20 to 25: place is the position in the run, and object and delta are

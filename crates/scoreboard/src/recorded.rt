@@ -5,12 +5,12 @@ ghost use lib.ListN.{length};
 ghost use Rattle.words.specs.Dwords.{dwordsIn};
 ghost use Rattle.scoreboard.specs.Recorded.{wordAt, vfeWordAt, objectFrom, stallsAt, candidateOf, deltaTo};
 use crate::Candidate;
-use crate::in_play::joined_mask;
-use crate::in_play::scoreboard_type;
-use crate::in_play::uses_scoreboard;
-use crate::meets::lowest_delta;
-use crate::meets::near;
 use batch::slot_of;
+use deltas::in_play::joined_mask;
+use deltas::in_play::scoreboard_type;
+use deltas::in_play::uses_scoreboard;
+use deltas::meets::lowest_delta;
+use deltas::meets::near;
 use words::held;
 use words::word;
 

@@ -1,0 +1,5 @@
+pub mod Whole
+pub mod Deltas
+pub mod InPlay
+pub mod Meets
+pub mod Lowest
