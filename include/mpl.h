@@ -28,7 +28,7 @@ enum {
     MPL_ORDER = 8,              /* commands out of order, or an index not below the count last loaded; place: the command */
     MPL_TOO_LARGE = 9,          /* a VFE exceeds the capacity, or a CURBE load the CURBE size in force; place: the command */
     MPL_RECORD_ROOM = 10,       /* all commands pass, but the record buffer has fewer than 16 words per command; place: dwords read */
-    MPL_PART_OF_A_DWORD = 17    /* byte entry only, before all others: not a multiple of 4 bytes; place: whole dwords */
+    MPL_PART_OF_A_DWORD = 17    /* byte entries only, before all others: not a multiple of 4 bytes; place: whole dwords */
 };
 
 /* Kinds of command, in word 0 of a record. */
@@ -104,6 +104,46 @@ struct mpl_batch mpl_check_batch_dwords(const uint32_t *batch, size_t batch_len,
  * is as it was too. A tail of `records` under 64 bytes is no fault.
  */
 struct mpl_batch mpl_check_batch(const uint8_t *batch, size_t batch_len, uint32_t capacity, uint8_t *records, size_t records_len);
+
+/* Why a run is turned away; 1 to 10 and 17 are the batch's, 17 also the run's. */
+enum {
+    MPL_FEW_STATES = 20,        /* fewer state bytes than objects; place 0 */
+    MPL_NO_SUCH_OBJECT = 21,
+    MPL_NOT_WAITING = 22,       /* start of one not waiting */
+    MPL_NOT_RUNNING = 23,       /* finish of one not running */
+    MPL_STALLS = 24,            /* it uses a scoreboard of type 0 and an earlier object is in state 0; names the lowest */
+    MPL_WAITS = 25              /* it waits; names the lowest object that it waits for, and the lowest delta at it */
+};
+
+/* State bytes, by object number. */
+enum {
+    MPL_WAITING = 0,
+    MPL_RUNNING = 1,
+    MPL_FINISHED = 2
+};
+
+/*
+ * number 0: the run was taken to its end, and place is its event count. 21 to 25: place is the bad event's position in the run, from 0.
+ * 1 to 10: as mpl_batch, place in the batch. 17: place is the whole dwords of the batch or, if the batch has no part of a dword, of
+ * the run. object and delta are 0 where the number names none.
+ */
+struct mpl_order {
+    uint64_t number, place, object, delta;
+};
+
+/*
+ * Is the order in which the batch's objects ran one that the scoreboard permits? A run is a list of numbers: 2k starts object k, 2k + 1
+ * finishes it. The batch is checked first, as above.
+ * 0 and 21 to 25: `records` holds the batch's records, as mpl_check_batch_dwords leaves them; states[k] is the state of object k after
+ * the last event that passed; state bytes past the objects are as they were.
+ * 1 to 10 and 20: `records` and `states` are as they were, all of them. Batch and run are never written.
+ */
+struct mpl_order mpl_check_order_dwords(const uint32_t *batch, size_t batch_len, uint32_t capacity, const uint32_t *run, size_t run_len,
+                                        uint32_t *records, size_t records_len, uint8_t *states, size_t states_len);
+
+/* The same over little-endian bytes; also 17, of the batch, then of the run, before all others, on which nothing is changed either. */
+struct mpl_order mpl_check_order(const uint8_t *batch, size_t batch_len, uint32_t capacity, const uint8_t *run, size_t run_len,
+                                 uint8_t *records, size_t records_len, uint8_t *states, size_t states_len);
 
 /* lowest is 8 where no delta is in play. */
 struct mpl_in_play {
