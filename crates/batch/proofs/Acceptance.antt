@@ -1,5 +1,5 @@
 -- What acceptance says of a batch. Assumes nothing.
-use mathlib.Core.Path.{_≡_, refl, sym, ap, ap₂, subst, _∙_}
+use mathlib.Core.Path.{_≡_, refl, sym, ap, subst, _∙_}
 use mathlib.Core.Bool.{Bool, true, false, cond}
 use mathlib.Core.Logic.{inr}
 use Prim.Native.Nat.{ℕ, zero, suc, _+_, _-_, _*_, _/_, _%_, _<_, _≤_}
@@ -23,7 +23,7 @@ use Rattle.batch.specs.Records.{written}
 use Rattle.batch.specs.Unread.{AfterEnd, Unread}
 use Rattle.batch.specs.Answers.{atStop, decided, refusedAnswer, acceptedAnswer, recordedIn, answerOf, recordsOf, bytesAnswerOf}
 use Rattle.batch.proofs.Walk.{walk, reading-walk}
-use Rattle.batch.proofs.Same.{same-reading}
+use Rattle.batch.proofs.Same.{same-reading, same-decision}
 
 -- how reading stopped, where it was at a refusal: its number is not 0
 abbrev Numbered : Stop → Type 0
@@ -99,14 +99,12 @@ module _ (capacity : ℕ) (b r : List ℕ) (c d : ℕ) (h : answerOf capacity b 
     one-reading = same-reading capacity b b′ e (λ i u. same i (before-end i u))
 
     pub after-end-answer : answerOf capacity b r ≡ answerOf capacity b′ r
-    unfolding answerOf decided
-    after-end-answer =
-        ap₂ (λ (n : ℕ) (x : Reading). cond (ltb 16384 n) (refusedAnswer 1 0) (atStop refusedAnswer acceptedAnswer (length r) (length (x .passed)) (x .stop))) e one-reading
+    unfolding answerOf
+    after-end-answer = same-decision refusedAnswer (λ x. acceptedAnswer) capacity (length r) b b′ e one-reading
 
     pub after-end-records : recordsOf capacity b r ≡ recordsOf capacity b′ r
-    unfolding recordsOf recordedIn decided
-    after-end-records =
-        ap₂ (λ (n : ℕ) (x : Reading). cond (ltb 16384 n) r (atStop (λ m p. r) (λ c d. written set (x .passed) 0 r) (length r) (length (x .passed)) (x .stop))) e one-reading
+    unfolding recordsOf recordedIn
+    after-end-records = same-decision (λ m p. r) (λ x c d. written set (x .passed) 0 r) capacity (length r) b b′ e one-reading
 
 -- The byte entry answers as the dword entry does on the whole dwords, where there are no bytes over.
 even-answer : (t : Bool) (a : Answer) (p c d : ℕ) → cond t a (refusedAnswer 17 p) ≡ acceptedAnswer c d → (t ≡ true) × (a ≡ acceptedAnswer c d)

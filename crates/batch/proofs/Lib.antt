@@ -10,3 +10,4 @@ pub mod EndToEnd
 pub mod Slots
 pub mod Vfes
 pub mod Counts
+pub mod Isolation

@@ -7,7 +7,7 @@ use native.Mathlib.Nat.{zero-add}
 use native.Mathlib.Omega.{arith}
 use mathlib.Core.List.{List, [], _∷_}
 use lib.ListN.{length, getD}
-use lib.Dec.{eqb}
+use lib.Dec.{eqb, ltb}
 use borrow.Author.Tests.{eqb-true, eqb-false}
 use Rattle.command.specs.declared.State.{State}
 use Rattle.command.specs.declared.Verdict.{Verdict}
@@ -18,6 +18,7 @@ use Rattle.command.specs.Refusals.{judgeOf}
 use Rattle.command.proofs.Heads.{own-pos, own-object, own-end, head-same}
 use Rattle.command.proofs.Judged.{own-in-total, passed-header, total-pos}
 use Rattle.batch.specs.Reading.{ended, Reading, reading, andThen, commandAt, onward, readingOf}
+use Rattle.batch.specs.Answers.{atStop, decided}
 use Rattle.batch.specs.Unread.{InlineData, Unread}
 use Rattle.batch.proofs.Walk.{walk, reading-walk}
 
@@ -182,3 +183,10 @@ same-reading capacity b b′ e h =
     ∙ same-walk b b′ 0 0 st e
     (λ i p u. h i (λ w. u (subst (λ (r : Reading). Unread r (0 + i)) (reading-walk capacity b) (subst (Unread (readingOf capacity b)) (sym (zero-add i)) w))))
     ∙ sym (reading-walk capacity b′)
+
+-- One decision goes by the length and the reading alone, if what is made of acceptance does.
+pub same-decision : {A : Type 0} (refused : ℕ → ℕ → A) (accepted : Reading → ℕ → ℕ → A) (capacity room : ℕ) (b b′ : List ℕ) → length b ≡ length b′ → readingOf capacity b ≡ readingOf capacity b′
+    → decided refused (accepted (readingOf capacity b)) capacity room b ≡ decided refused (accepted (readingOf capacity b′)) capacity room b′
+unfolding decided
+same-decision refused accepted capacity room b b′ e q =
+    ap₂ (λ (n : ℕ) (x : Reading). cond (ltb 16384 n) (refused 1 0) (atStop refused (accepted x) room (length (x .passed)) (x .stop))) e q

@@ -5,7 +5,7 @@ use mathlib.Core.List.{List, [], _∷_}
 use Prim.Native.Nat.{ℕ, zero, suc, _+_, _-_, _<_}
 use native.Mathlib.Nat.{zero-add, add-zero}
 use native.Mathlib.Omega.{arith}
-use lib.ListN.{length, getD}
+use lib.ListN.{length}
 use lib.Dec.{eqb}
 use borrow.Author.Tests.{eqb-true}
 use Rattle.command.specs.declared.State.{State}
@@ -16,7 +16,7 @@ use Rattle.command.specs.Order.{Command, standsSince, earlierVfe, vfeInForce, s
 use Rattle.command.specs.Refusals.{judgeOf}
 use Rattle.command.proofs.Judged.{passed-configured}
 use Rattle.batch.specs.Reading.{ended, Reading, reading, andThen, commandAt, onward, read, readingOf}
-use Rattle.batch.specs.Vfes.{noCommand, commandNumber, UnderVfe}
+use Rattle.batch.specs.Vfes.{commandNumber, UnderVfe}
 
 -- commands before, the nearest first, and then the list of those after
 abbrev onto : List Command → List Command → List Command

@@ -67,9 +67,6 @@ unfolding findFirst
 find-before f n k h = from-before f n 0 k (omega arith) h
 
 -- a search that goes on from where nothing was found before
-pub none-first : (f : ℕ → Bool) → NoneBelow f 0
-none-first f j h = absurd (omega arith)
-
 pub none-next : (f : ℕ → Bool) (n : ℕ) → NoneBelow f n → f n ≡ false → NoneBelow f (n + 1)
 none-next f n off e j h = go (eq-or-lt-of-le (let l : j ≤ n = omega arith in l))
   where

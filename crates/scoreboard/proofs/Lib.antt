@@ -9,3 +9,4 @@ pub mod StartRows
 pub mod RunTurns
 pub mod RecordedObjects
 pub mod Orders
+pub mod Isolation

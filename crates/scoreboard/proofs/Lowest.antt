@@ -1,27 +1,17 @@
 -- The lowest delta that leads to an object: the code's numbers against the objects. Assumes nothing.
-use mathlib.Core.Path.{_≡_, refl, sym, ap, ap₂, _∙_}
+use mathlib.Core.Path.{_≡_, refl, sym, ap, _∙_}
 use mathlib.Core.Bool.{Bool, true, false, cond, _&&_}
 use mathlib.Core.List.{List, [], _∷_, map, List·Memᴰ}
-use Prim.Native.Nat.{ℕ, zero, suc, _+_, _-_, _/_, _^_, _<_, _≤_}
+use Prim.Native.Nat.{ℕ, zero, suc, _+_, _-_, _<_, _≤_}
 use native.Mathlib.Omega.{arith}
-use borrow.Author.Tests.{eq-eqb, ne-eqb, lt-ltb, ltb-true}
+use borrow.Author.Tests.{lt-ltb, ltb-true}
 use lib.Dec.{ltb}
-use lib.Bits.{bitAnd}
-use lib.IntN.{ℤ}
-use mir.Syntax.{w32}
-use mir.Val.{toZ, ofZ}
-use mir.Facts.{toZ-ofZ}
-use Rattle.laws.specs.BitRanges.{bits, field}
-use Rattle.laws.proofs.BitRanges.{taken}
-use Rattle.deltas.specs.Deltas.{deltaX, deltaY}
 use Rattle.deltas.specs.InPlay.{bitSet, those, joinedMask}
-use Rattle.deltas.specs.Meets.{meetsAt}
 use Rattle.scoreboard.specs.Objects.{Delta, Object, meets, deltaAt, objectWith}
 use Rattle.laws.specs.Find.{firstFrom, findFirst}
 use Rattle.scoreboard.specs.Run.{someOf, lowestOf}
 use Rattle.deltas.specs.Lowest.{leadsAt, lowestAt}
-use Rattle.deltas.proofs.Nibbles.{x-fits, y-fits}
-use Rattle.deltas.proofs.Masks.{setBits, joined-set}
+use Rattle.deltas.proofs.Masks.{joined-set}
 use Rattle.scoreboard.proofs.Waits.{some-one, one-some, lowest-le, lowest-one}
 
 -- the deltas of a mask, searched one after the other

@@ -4,12 +4,12 @@ use mathlib.Core.Bool.{Bool, true, false, cond}
 use mathlib.Core.List.{List, []}
 use Prim.Native.Nat.{ℕ, _*_, _/_, _%_, _<_, _≤_}
 use native.Mathlib.Omega.{arith}
-use lib.Dec.{ltb, eqb}
+use lib.Dec.{ltb}
 use lib.ListN.{length, set}
 use borrow.Author.Tests.{eq-eqb, ne-eqb, lt-ltb, le-ltb}
 use Rattle.words.specs.Dwords.{dwordsOf, dwordsIn, putLe, Buffer, buffer, putIn}
 use Rattle.words.proofs.Dwords.{in-none, in-dwords, length-dwords}
-use Rattle.command.specs.Order.{Command, objectCount}
+use Rattle.command.specs.Order.{Command}
 use Rattle.batch.specs.declared.Scanned.{Scanned}
 use Rattle.batch.specs.declared.Scanned.the-variants.{Stopped, Ended}
 use Rattle.batch.specs.Reading.{readingOf}
@@ -19,7 +19,7 @@ use Rattle.batch.proofs.Counts.{passed-count}
 use Rattle.batch.proofs.Vfes.{under-vfe}
 use Rattle.batch.proofs.Slots.{written-length}
 use Rattle.scoreboard.specs.declared.Answer.{Answer}
-use Rattle.scoreboard.specs.Objects.{Object, objectsOf}
+use Rattle.scoreboard.specs.Objects.{Object}
 use Rattle.scoreboard.specs.Run.{Ran, runFrom, begun, ran}
 use Rattle.scoreboard.specs.Answers.{objectsIn, begins, ordered, bytesOrdered, refusedAnswer, ranAnswer, answerOf, bufferOf, recordsOf, statesOf, bytesAnswerOf, bytesRecordsOf, bytesStatesOf}
 use Rattle.scoreboard.specs.Recorded.{objectsRecorded}

@@ -1,5 +1,5 @@
 -- The records hold the objects of the batch. Assumes nothing.
-use mathlib.Core.Path.{_≡_, refl, sym, ap, ap₂, subst, _∙_}
+use mathlib.Core.Path.{_≡_, refl, sym, ap, _∙_}
 use mathlib.Core.Bool.{Bool, true, false, cond}
 use mathlib.Core.List.{List, [], _∷_}
 use Prim.Native.Nat.{ℕ, zero, suc, _+_, _*_, _<_, _≤_}
@@ -14,9 +14,9 @@ use Rattle.command.specs.Fields as fields
 use Rattle.command.specs.Fields.{dword}
 use Rattle.command.specs.Record.{recordOf}
 use Rattle.batch.specs.Vfes.{noCommand, commandNumber, UnderVfe}
-use Rattle.batch.specs.Records.{slot, written}
+use Rattle.batch.specs.Records.{written}
 use Rattle.batch.proofs.Slots.{word-at}
-use Rattle.scoreboard.specs.Objects.{Object, objectOf, objectsOf}
+use Rattle.scoreboard.specs.Objects.{objectOf, objectsOf}
 use Rattle.scoreboard.specs.Recorded.{wordAt, vfeWordAt, isObject, objectRecorded, objectsRecorded}
 
 -- there are as many objects as the first pass counts

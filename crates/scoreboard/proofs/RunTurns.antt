@@ -7,7 +7,7 @@ use Prim.Native.Nat.{ℕ, zero, suc, _+_, _/_, _<_, _≤_}
 use native.Mathlib.Numerals.{add-one}
 use native.Mathlib.Omega.{arith}
 use lib.Dec.{T, leb, eqb}
-use lib.ListN.{length, getD, set, drop, replicate, length-replicate, length-set, drop-of-length-le}
+use lib.ListN.{length, getD, set, drop, replicate, length-replicate, drop-of-length-le}
 use lib.Seq.{drop-cons, set-at, getD-set-other}
 use borrow.Author.Tests.{eqb-true, eqb-false, eq-eqb, ne-eqb, leb-false}
 use Rattle.laws.specs.Find.{NoneBelow}
@@ -15,10 +15,10 @@ use Rattle.scoreboard.specs.declared.Answer.{Answer}
 use Rattle.scoreboard.specs.declared.Verdict.{Verdict}
 use Rattle.scoreboard.specs.declared.Cursors.{Cursors}
 use Rattle.scoreboard.specs.Objects.{Object}
-use Rattle.scoreboard.specs.Run.{stateAt, starts, stateLeft, row, firstRow, rows, verdictOf, after, Ran, runFrom, begun}
-use Rattle.scoreboard.specs.Starts.{waitingAt, unfinishedAt, Sound}
+use Rattle.scoreboard.specs.Run.{stateAt, starts, stateLeft, firstRow, rows, verdictOf, after, Ran, runFrom, begun}
+use Rattle.scoreboard.specs.Starts.{Sound}
 use Rattle.scoreboard.specs.Answers.{ranAnswer}
-use Rattle.scoreboard.proofs.Named.{passes-start, passes-finish}
+use Rattle.scoreboard.proofs.Named.{passes-start}
 use Rattle.scoreboard.proofs.Runs.{run-on, run-off}
 use Rattle.scoreboard.proofs.Spots.{spot-first}
 

@@ -3,17 +3,16 @@
 use mathlib.Core.Path.{_≡_, refl, sym, ap, ap₂, subst, _∙_}
 use mathlib.Core.Bool.{Bool, true, false, not, cond, _&&_}
 use mathlib.Core.List.{List, List·Memᴰ}
-use Prim.Native.Nat.{ℕ, suc, _+_, _<_, _≤_, min}
+use Prim.Native.Nat.{ℕ, _+_, _<_, _≤_, min}
 use native.Mathlib.Omega.{arith}
-use lib.Dec.{T, ltb, eqb}
+use lib.Dec.{ltb, eqb}
 use lib.ListN.{length, getD}
-use borrow.Author.Tests.{eq-eqb, ne-eqb, lt-ltb, le-ltb, ltb-true, ltb-false, eqb-true}
+use borrow.Author.Tests.{eq-eqb, ne-eqb, lt-ltb, le-ltb}
 use Rattle.laws.specs.Find.{findFirst, NoneBelow}
-use Rattle.laws.proofs.Find.{none-first, none-next, found, none}
-use Rattle.scoreboard.specs.declared.Verdict.{Verdict}
+use Rattle.laws.proofs.Find.{none-next, found, none}
 use Rattle.scoreboard.specs.declared.Candidate.{Candidate}
 use Rattle.scoreboard.specs.Objects.{Delta, Object, meets, objectWith}
-use Rattle.scoreboard.specs.Run.{objectAt, stateAt, someOf, lowestOf, waitsFor, lowestWaited, lowestDelta, lowestWaiting, verdict}
+use Rattle.scoreboard.specs.Run.{objectAt, stateAt, lowestOf, waitsFor, lowestWaited, lowestDelta, lowestWaiting, verdict}
 use Rattle.scoreboard.specs.Recorded.{wordAt, vfeWordAt, objectRecorded, objectsRecorded, objectFrom, Spotted, Holds, candidateOf, deltaTo, deltaIn}
 use Rattle.scoreboard.specs.Starts.{waitVerdict, waitingAt, unfinishedAt}
 use Rattle.scoreboard.proofs.Waits.{object-eight}

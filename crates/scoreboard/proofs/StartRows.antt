@@ -2,18 +2,18 @@
 use mathlib.Core.Path.{_≡_, refl, sym, ap, ap₂, subst, _∙_}
 use mathlib.Core.Bool.{Bool, true, false, not, cond, _&&_}
 use mathlib.Core.List.{List}
-use Prim.Native.Nat.{ℕ, _+_, _/_, _%_, _<_, _≤_, min}
+use Prim.Native.Nat.{ℕ, _/_, _%_, _<_, _≤_, min}
 use native.Mathlib.Omega.{arith}
 use lib.Dec.{T, ltb, leb, eqb}
 use lib.ListN.{length, getD}
-use borrow.Author.Tests.{eq-eqb, ne-eqb, lt-ltb, le-ltb, ltb-true, ltb-false, le-leb, lt-leb, leb-true, leb-false}
+use borrow.Author.Tests.{eq-eqb, ne-eqb, le-ltb, ltb-true, ltb-false, le-leb, lt-leb, leb-true}
 use Rattle.laws.specs.Find.{NoneBelow}
 use Rattle.scoreboard.specs.declared.Verdict.{Verdict}
 use Rattle.scoreboard.specs.declared.Cursors.{Cursors}
 use Rattle.scoreboard.specs.declared.Spot.{Spot}
 use Rattle.scoreboard.specs.declared.Judged.{Judged}
 use Rattle.scoreboard.specs.Objects.{Object, objectWith}
-use Rattle.scoreboard.specs.Run.{objectAt, stateAt, lowestWaiting, lowestWaited, lowestDelta, verdict, verdictOf}
+use Rattle.scoreboard.specs.Run.{objectAt, stateAt, lowestWaiting, verdict, verdictOf}
 use Rattle.scoreboard.specs.Recorded.{objectRecorded, objectsRecorded, Spotted, Holds, stallsAt}
 use Rattle.scoreboard.specs.Starts.{waitVerdict, startVerdict, waitingAt, unfinishedAt, nearestOf, judged, Sound}
 

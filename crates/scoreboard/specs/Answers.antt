@@ -5,7 +5,6 @@ use mathlib.Core.List.{List}
 use lib.Dec.{ltb, eqb}
 use lib.ListN.{length, set}
 use Rattle.words.specs.Dwords.{dwordsOf, putLe, Buffer, putIn}
-use Rattle.command.specs.Order.{Command}
 use Rattle.batch.specs.Reading.{readingOf}
 use Rattle.batch.specs.Answers.{decided, recorded}
 use Rattle.scoreboard.specs.declared.Answer.{Answer}

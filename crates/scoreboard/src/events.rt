@@ -1,6 +1,6 @@
 // A run: its events one after the other, up to the first bad one.
 ghost use mathlib.Core.Path.{_≡_};
-ghost use Prim.Native.Nat.{_+_, _*_, _^_, _<_, _≤_};
+ghost use Prim.Native.Nat.{_+_, _*_, _<_, _≤_};
 ghost use lib.ListN.{length};
 ghost use Rattle.words.specs.Dwords.{dwordsIn};
 ghost use Rattle.scoreboard.specs.Run.{verdictOf, stateLeft, runFrom, begun};

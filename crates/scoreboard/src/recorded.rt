@@ -1,6 +1,6 @@
 // Objects out of the records.
 ghost use mathlib.Core.Path.{_≡_};
-ghost use Prim.Native.Nat.{_+_, _*_, _^_, _<_, _≤_};
+ghost use Prim.Native.Nat.{_+_, _*_, _<_, _≤_};
 ghost use lib.ListN.{length};
 ghost use Rattle.words.specs.Dwords.{dwordsIn};
 ghost use Rattle.scoreboard.specs.Recorded.{wordAt, vfeWordAt, objectFrom, stallsAt, candidateOf, deltaTo};

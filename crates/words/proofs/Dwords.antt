@@ -29,7 +29,8 @@ le4 a b c d l j =
       shift4 a b c d l (4 * j + 3) (4 * suc j + 3) (omega arith),
     )
 
-getD-dwords : (l : List ℕ) (j : ℕ) → j < length l / 4 → getD (dwordsOf l) j 0 ≡ leAt l (4 * j)
+-- dword j of the bytes is the four from 4 j on
+pub getD-dwords : (l : List ℕ) (j : ℕ) → j < length l / 4 → getD (dwordsOf l) j 0 ≡ leAt l (4 * j)
 unfolding dwordsOf
 getD-dwords (a ∷ b ∷ c ∷ d ∷ l) zero h = refl
 getD-dwords (a ∷ b ∷ c ∷ d ∷ l) (suc j) h =
