@@ -2,3 +2,4 @@ pub mod Tests
 pub mod BitRanges
 pub mod Find
 pub mod Table
+pub mod Choices

@@ -1,3 +1,4 @@
 pub mod Rows
 pub mod BitRanges
 pub mod Find
+pub mod AnyOf

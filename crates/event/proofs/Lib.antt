@@ -1,0 +1,5 @@
+pub mod Tests
+pub mod Taken
+pub mod Formed
+pub mod Waiting
+pub mod Rules

@@ -1,0 +1,4 @@
+pub mod Head
+pub mod Codes
+pub mod Groups
+pub mod Outcomes
