@@ -3,3 +3,4 @@ pub mod Taken
 pub mod Formed
 pub mod Waiting
 pub mod Rules
+pub mod Reach

@@ -2,3 +2,4 @@ pub mod Head
 pub mod Codes
 pub mod Groups
 pub mod Outcomes
+pub mod Within

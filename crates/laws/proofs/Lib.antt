@@ -3,3 +3,5 @@ pub mod BitRanges
 pub mod Find
 pub mod Table
 pub mod Choices
+pub mod Rows
+pub mod Filled
