@@ -2,6 +2,7 @@
 ghost use mathlib.Core.Path.{_≡_};
 ghost use Rattle.scoreboard.specs.InPlay.{inPlay, counted};
 ghost use Rattle.batch.specs.Answers.{answerOf, recordsOf, bytesAnswerOf, bytesRecordsOf};
+ghost use Rattle.gateway.specs.Replay.{replayOf};
 
 // The batch check over little-endian bytes.
 #[no_mangle]
@@ -33,4 +34,17 @@ pub extern "C" fn mpl_deltas_in_play(
     ensures { λ r. ⌜ r ≡ counted (inPlay object_dword_2 vfe_dword_5 object_dword_5) ⌝ }
 {
     scoreboard::in_play::deltas_in_play(object_dword_2, vfe_dword_5, object_dword_5)
+}
+
+// The gateway replay.
+#[no_mangle]
+pub extern "C" fn mpl_replay(
+    recording: &[u8],
+    registers: &mut [u8],
+    counts: &mut [u32],
+    outcomes: &mut [u8],
+) -> gateway::Replayed
+    ensures { λ r. ⌜ (r ≡ replayOf (now (recording .entry)) (now (registers .entry)) (now (counts .entry)) (now (outcomes .entry)) .answer) × (now (registers .exit) ≡ replayOf (now (recording .entry)) (now (registers .entry)) (now (counts .entry)) (now (outcomes .entry)) .registers) × (now (counts .exit) ≡ replayOf (now (recording .entry)) (now (registers .entry)) (now (counts .entry)) (now (outcomes .entry)) .counts) × (now (outcomes .exit) ≡ replayOf (now (recording .entry)) (now (registers .entry)) (now (counts .entry)) (now (outcomes .entry)) .outcomes) ⌝ }
+{
+    gateway::replay(recording, registers, counts, outcomes)
 }
