@@ -4,3 +4,4 @@ pub mod Formed
 pub mod Waiting
 pub mod Rules
 pub mod Reach
+pub mod Sources

@@ -38,7 +38,7 @@ module _ (rec : List ℕ) (registers counts outcomes : ℕ) (passed : refusalOf 
   pub outcomes-room : eventsOf rec ≤ outcomes
   outcomes-room = ltb-false outcomes (eventsOf rec) (passes 11)
 
-zeros : (n k : ℕ) → _≡_ {A = ℕ} (getD (replicate n 0) k 0) 0
+pub zeros : (n k : ℕ) → _≡_ {A = ℕ} (getD (replicate n 0) k 0) 0
 zeros zero k = refl
 zeros (suc n) zero = refl
 zeros (suc n) (suc k) = zeros n k

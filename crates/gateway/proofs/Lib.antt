@@ -5,3 +5,7 @@ pub mod Turns
 pub mod Bounds
 pub mod Masks
 pub mod Accepted
+pub mod Counts
+pub mod Events
+pub mod Barriers
+pub mod Claimed

@@ -5,3 +5,4 @@ pub mod Table
 pub mod Choices
 pub mod Rows
 pub mod Filled
+pub mod Paste
