@@ -25,17 +25,12 @@ pub fn half(bytes: &[u8], k: usize) -> u32
     wide(bytes[k]) + 256 * wide(bytes[k + 1])
 }
 
-// Bytes 10 to 15, added up.
+// Bytes 10 to 15, by pairs, added up.
 fn padding(event: &[u8]) -> u32
     requires { ⌜ 16 ≤ length (now event) ⌝ }
     ensures { λ r. ⌜ r ≡ paddingOf (now (event .entry)) ⌝ }
 {
-    wide(event[10])
-        + wide(event[11])
-        + wide(event[12])
-        + wide(event[13])
-        + wide(event[14])
-        + wide(event[15])
+    half(event, 10) + half(event, 12) + half(event, 14)
 }
 
 // The head of an event, of which it reads bytes 0 to 15.

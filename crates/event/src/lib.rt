@@ -22,7 +22,7 @@ pub struct Head {
     pub key: u32,
     // open: register base; forward: offset
     pub place: u32,
-    // bytes 10 to 15, added up
+    // bytes 10 to 15, by pairs, added up
     pub padding: u32,
 }
 

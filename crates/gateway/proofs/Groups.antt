@@ -2,7 +2,7 @@
 use mathlib.Core.Path.{_≡_, refl, sym, ap, _∙_, subst}
 use mathlib.Core.Bool.{Bool, true, false}
 use mathlib.Core.List.{List, [], _∷_}
-use Prim.Native.Nat.{ℕ, zero, suc, _+_, _*_, _≤_, _<_}
+use Prim.Native.Nat.{ℕ, zero, suc, _+_, _*_, _-_, _≤_, _<_}
 use native.Mathlib.Numerals.{add-one}
 use native.Mathlib.Omega.{arith}
 use lib.Dec.{eqb}
@@ -11,7 +11,7 @@ use lib.Seq.{getD-set-other}
 use borrow.Author.Tests.{eq-eqb, ne-eqb, eqb-true, eqb-false}
 use Rattle.laws.proofs.Choices.{by-cond, by-test}
 use Rattle.event.specs.Groups.{groupOf, waitsOf}
-use Rattle.gateway.specs.Effects.{released, oneMore, paid}
+use Rattle.gateway.specs.Effects.{released, oneMore, notified, paid}
 
 module _ (groups : List ℕ) (g : ℕ) (waits : List Bool) where
   -- a turn of the loop that releases
@@ -45,3 +45,16 @@ module _ (groups : List ℕ) (g : ℕ) (cs : List ℕ) where
       let ih = paid-later n k (omega arith) in
       by-cond (λ (l : List ℕ). getD l k 0 ≡ getD cs k 0) (eqb (groupOf groups n) g) _ _
       (λ _. getD-set-other (paid n groups g cs) (2 * n) k _ 0 (λ q. omega arith) ∙ ih) (λ _. ih)
+
+-- ---- a forward's notification
+
+pub not-notified : (r m : ℕ) (cs : List ℕ) → (m ≡ 1 → ⊥) → (m ≡ 2 → ⊥) → cs ≡ notified r m cs
+unfolding notified
+not-notified r m cs one two = simp (ne-eqb m 1 one, ne-eqb m 2 two)
+
+pub notified-by : (r m : ℕ) (cs : List ℕ) → (m ≡ 0 → ⊥) → m ≤ 2 → oneMore cs (2 * r + m - 1) ≡ notified r m cs
+unfolding notified
+notified-by r m cs none most =
+    by-test (eqb m 1)
+    (λ q. let z = eqb-true m 1 q in let e : 2 * r + m - 1 ≡ 2 * r = omega arith in rw e (simp q))
+    (λ q. let z = eqb-false m 1 q in let t : m ≡ 2 = omega arith in let e : 2 * r + m - 1 ≡ 2 * r + 1 = omega arith in rw e (simp (q, eq-eqb m 2 t)))

@@ -1,6 +1,6 @@
 -- A turn of the loop over the events takes the world after i events to the world after one more. Assumes nothing.
 use mathlib.Core.Path.{_≡_, refl, sym, ap, ap₂, _∙_, subst}
-use mathlib.Core.Bool.{Bool}
+use mathlib.Core.Bool.{Bool, true, false}
 use mathlib.Core.List.{List}
 use Prim.Native.Nat.{ℕ, zero, suc, _+_, _*_, _-_, _≤_, _<_}
 use native.Mathlib.Nat.{add-sub-cancel-left}
@@ -8,6 +8,7 @@ use native.Mathlib.Numerals.{add-one}
 use native.Mathlib.Omega.{arith}
 use lib.ListN.{length, getD, set, take, drop, length-take, length-drop, length-set, List·getD-eq-default}
 use lib.Seq.{set-getD}
+use Rattle.laws.proofs.Choices.{not-both}
 use Rattle.event.specs.declared.Head.{Head}
 use Rattle.event.specs.declared.Setup.{Setup}
 use Rattle.event.specs.declared.Gateway.{Gateway}
@@ -19,7 +20,7 @@ use Rattle.event.specs.Outcomes.{decisionOf, outcomeOf}
 use Rattle.event.specs.Within.{Within}
 use Rattle.gateway.specs.declared.State.{State}
 use Rattle.gateway.specs.Recording.{threadsOf, eventAt}
-use Rattle.gateway.specs.Effects.{gatewaysAfter, gatewaySlot, gatewayAfter, bytesAfter, byteSlot, byteAfter, waitsAfter, countsAfter, registersAfter}
+use Rattle.gateway.specs.Effects.{changesState, gatewaysAfter, gatewaySlot, gatewayAfter, bytesAfter, byteSlot, byteAfter, waitsAfter, countsAfter, registersAfter}
 use Rattle.gateway.specs.Replay.{World, leaves, stepOf, runOf}
 
 -- a thread above the sixteen has no gateway
@@ -46,6 +47,48 @@ one-byte (Forward r a n m) bs = set-getD bs 0 0
 one-byte (Wait t) bs = set-getD bs 0 0
 one-byte (Release g) bs = set-getD bs 0 0
 one-byte (Update b v) bs = refl
+
+-- a decision that changes no state
+pub same-gateways : (d : Decision) (gs : List Gateway) → changesState d ≡ false → gs ≡ gatewaysAfter d gs
+unfolding gatewaysAfter
+same-gateways (Refused n) gs e = refl
+same-gateways (Open t b z k) gs e = absurd (not-both true refl e)
+same-gateways (Close t) gs e = absurd (not-both true refl e)
+same-gateways (Forward r a n m) gs e = refl
+same-gateways (Wait t) gs e = absurd (not-both true refl e)
+same-gateways (Release g) gs e = absurd (not-both true refl e)
+same-gateways (Update b v) gs e = absurd (not-both true refl e)
+
+pub same-bytes : (d : Decision) (bs : List ℕ) → changesState d ≡ false → bs ≡ bytesAfter d bs
+unfolding bytesAfter
+same-bytes (Refused n) bs e = refl
+same-bytes (Open t b z k) bs e = absurd (not-both true refl e)
+same-bytes (Close t) bs e = absurd (not-both true refl e)
+same-bytes (Forward r a n m) bs e = refl
+same-bytes (Wait t) bs e = absurd (not-both true refl e)
+same-bytes (Release g) bs e = absurd (not-both true refl e)
+same-bytes (Update b v) bs e = absurd (not-both true refl e)
+
+pub same-waits : (d : Decision) (s : Setup) (ws : List Bool) → changesState d ≡ false → ws ≡ waitsAfter d s ws
+unfolding waitsAfter
+same-waits (Refused n) s ws e = refl
+same-waits (Open t b z k) s ws e = absurd (not-both true refl e)
+same-waits (Close t) s ws e = absurd (not-both true refl e)
+same-waits (Forward r a n m) s ws e = refl
+same-waits (Wait t) s ws e = absurd (not-both true refl e)
+same-waits (Release g) s ws e = absurd (not-both true refl e)
+same-waits (Update b v) s ws e = absurd (not-both true refl e)
+
+-- there are as many gateways after an event as before
+pub gateways-long : (d : Decision) (gs : List Gateway) → length (gatewaysAfter d gs) ≡ length gs
+unfolding gatewaysAfter
+gateways-long (Refused n) gs = refl
+gateways-long (Open t b z k) gs = length-set gs t _
+gateways-long (Close t) gs = length-set gs t _
+gateways-long (Forward r a n m) gs = refl
+gateways-long (Wait t) gs = refl
+gateways-long (Release g) gs = refl
+gateways-long (Update b v) gs = refl
 
 pub gateway-slot-below : (s : Setup) (d : Decision) → s .threads ≤ 16 → Within s d → gatewaySlot d < 16
 unfolding Within

@@ -27,6 +27,16 @@ gatewaysAfter (Wait t) gs = gs
 gatewaysAfter (Release g) gs = gs
 gatewaysAfter (Update b v) gs = gs
 
+-- Does a decision change what the next event meets beside registers and counts?
+abbrev pub changesState : Decision → Bool
+changesState (Refused n) = false
+changesState (Open t b z k) = true
+changesState (Close t) = true
+changesState (Forward r a n m) = false
+changesState (Wait t) = true
+changesState (Release g) = true
+changesState (Update b v) = true
+
 -- A decision changes one gateway at most: whose, and to what.
 abbrev pub gatewaySlot : Decision → ℕ
 gatewaySlot (Refused n) = 0

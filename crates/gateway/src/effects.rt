@@ -6,7 +6,7 @@ ghost use lib.ListN.{length, getD, drop};
 ghost use lib.Seq.{paste};
 ghost use Rattle.event.specs.Outcomes.{outcomeOf};
 ghost use Rattle.event.specs.Within.{Within};
-ghost use Rattle.gateway.specs.Effects.{gatewaySlot, gatewayAfter, byteSlot, byteAfter, released, waitsAfter, oneMore, notified, paid, countsAfter, forwarded, acknowledged, ackPlace, withAck, Room};
+ghost use Rattle.gateway.specs.Effects.{changesState, gatewaySlot, gatewayAfter, byteSlot, byteAfter, released, waitsAfter, oneMore, notified, paid, countsAfter, forwarded, acknowledged, ackPlace, withAck, Room};
 use event::Decision;
 use event::Gateway;
 use event::Head;
@@ -157,6 +157,34 @@ pub fn byte_after(d: Decision, x: u32) -> u32
     }
 }
 
+// Does a decision change the gateways, the barriers' bytes or who waits?
+pub fn changes_state(d: Decision) -> bool
+    ensures { λ r. ⌜ r ≡ changesState d ⌝ }
+{
+    match d {
+        Decision::Refused { number: _ } => false,
+        Decision::Open {
+            thread: _,
+            base: _,
+            size: _,
+            key: _,
+        } => true,
+        Decision::Close { thread: _ } => true,
+        Decision::Forward {
+            to: _,
+            at: _,
+            count: _,
+            notify: _,
+        } => false,
+        Decision::Wait { thread: _ } => true,
+        Decision::Release { group: _ } => true,
+        Decision::Update {
+            barrier: _,
+            byte: _,
+        } => true,
+    }
+}
+
 // The members of a group wait no more.
 fn release(setup: Setup, group: u8, waits: [bool; 16]) -> [bool; 16]
     requires { ⌜ setup .threads ≤ 16 ⌝ }
@@ -220,13 +248,13 @@ fn notify(counts: &mut [u32], to: usize, notify: u32)
     requires { ⌜ (2 * to + 1 < length (now counts)) × (length (now counts) ≤ 32) × ((k : ℕ) → getD (now counts) k 0 < 4294967295) ⌝ }
     ensures { λ _. ⌜ now (counts .exit) ≡ notified to notify (now (counts .entry)) ⌝ }
 {
-    if notify == 1 {
-        one_more(counts, 2 * to);
+    if notify == 0 {
         return;
     }
-    if notify == 2 {
-        one_more(counts, 2 * to + 1);
+    if 2 < notify {
+        return;
     }
+    one_more(counts, 2 * to + notify as usize - 1);
 }
 
 // Each member of a group gets one N0.

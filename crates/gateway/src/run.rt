@@ -13,6 +13,7 @@ use crate::effects::acknowledge;
 use crate::effects::byte_after;
 use crate::effects::byte_slot;
 use crate::effects::carry_out;
+use crate::effects::changes_state;
 use crate::effects::gateway_after;
 use crate::effects::gateway_slot;
 use crate::effects::outcome;
@@ -84,13 +85,15 @@ pub fn run(
         }
         let d = step(&recording[from..to], setup, gate, waits, registers, counts);
         outcomes[i] = outcome(d);
-        let t = gateway_slot(d);
-        let g = gateways[t];
-        gateways[t] = gateway_after(d, g);
-        let b = byte_slot(d);
-        bytes[b] = byte_after(d, bytes[b]);
-        let left = waits_after(d, setup, waits);
-        waits = left;
+        if changes_state(d) {
+            let t = gateway_slot(d);
+            let g = gateways[t];
+            gateways[t] = gateway_after(d, g);
+            let b = byte_slot(d);
+            bytes[b] = byte_after(d, bytes[b]);
+            let left = waits_after(d, setup, waits);
+            waits = left;
+        }
         i += 1;
     }
     State {

@@ -1,7 +1,3 @@
-use lib.ListN.{length, getD, set, length-set}
-use Rattle.event.specs.Codes.{Window, gatewayAt}
-use Rattle.gateway.specs.Effects.{gatewayAfter, byteAfter}
-use Rattle.gateway.proofs.Turns.{world, turn, no-gateway, one-gateway, one-byte, gateway-slot-below, byte-slot-below, part-is, part-long}
 use borrow.Author.Needs.{needs}
 use native.Mathlib.Omega.{arith}
 use native.Mathlib.Nat.{le-antisymm}
@@ -9,12 +5,13 @@ use mathlib.Core.Path.{_≡_, refl, sym, ap, _∙_}
 use mathlib.Core.List.{List}
 use mathlib.Core.Logic.{⊎-elim}
 use Prim.Native.Nat.{ℕ, _≤_, _-_, _+_, _*_}
-use lib.ListN.{length, set, length-set}
+use lib.ListN.{length, getD, set, length-set}
 use Rattle.event.specs.declared.Gateway.{Gateway}
-use Rattle.event.specs.Codes.{Window}
+use Rattle.event.specs.Codes.{Window, gatewayAt}
+use Rattle.gateway.specs.Effects.{gatewayAfter, gatewaysAfter, byteAfter, bytesAfter, waitsAfter}
 use Rattle.event.specs.Outcomes.{decisionOf}
 use Rattle.gateway.specs.Replay.{World, runOf, start}
-use Rattle.gateway.proofs.Turns.{world, turn, one-gateway, one-byte, gateway-slot-below, byte-slot-below, part-is, part-long}
+use Rattle.gateway.proofs.Turns.{world, turn, no-gateway, one-gateway, one-byte, same-gateways, same-bytes, same-waits, gateways-long, gateway-slot-below, byte-slot-below, part-is, part-long}
 use Rattle.gateway.proofs.Bounds.{closed-window, start-windows, met-windows, run-low}
 use Rattle.gateway.proofs.run.run.Statement.{statement}
 use Rattle.gateway.proofs.run.run.Tie as tie
@@ -90,44 +87,47 @@ outcome-requires c κs = search needs
 slice-write-outcomes : tie.Need-slice-write-outcomes Inv-loop μ-loop
 slice-write-outcomes c = omega arith
 
+changes-state-requires : tie.Need-changes-state-requires Inv-loop μ-loop
+changes-state-requires c κs = search needs
+
 gateway-slot-requires : tie.Need-gateway-slot-requires Inv-loop μ-loop
 gateway-slot-requires c κs = search needs
 
 mul-g : tie.Need-mul-g Inv-loop μ-loop
-mul-g c = omega (arith, c .gateway-slot .ensures, gateway-slot-below (c .before .before .before .before .before .before .before .before .before .before .before .before .before .before .before .before .before .before .before .before .args .setup) (c .before .before .before .before .before .before .step .result) (c .before .before .before .before .before .before .before .before .before .before .before .before .before .before .before .before .before .before .before .before .pre .few) (c .before .before .before .before .before .before .step .ensures .3))
+mul-g c = omega (arith, c .gateway-slot .ensures, gateway-slot-below (c .before .before .before .before .before .before .before .before .before .before .before .before .before .before .before .before .before .before .before .before .before .before .args .setup) (c .before .before .before .before .before .before .before .before .step .result) (c .before .before .before .before .before .before .before .before .before .before .before .before .before .before .before .before .before .before .before .before .before .before .pre .few) (c .before .before .before .before .before .before .before .before .step .ensures .3))
 
 array-copy-out-g : tie.Need-array-copy-out-g Inv-loop μ-loop
-array-copy-out-g c = omega (arith, c .gateway-slot .ensures, gateway-slot-below (c .before .before .before .before .before .before .before .before .before .before .before .before .before .before .before .before .before .before .before .before .args .setup) (c .before .before .before .before .before .before .step .result) (c .before .before .before .before .before .before .before .before .before .before .before .before .before .before .before .before .before .before .before .before .pre .few) (c .before .before .before .before .before .before .step .ensures .3))
+array-copy-out-g c = omega (arith, c .gateway-slot .ensures, gateway-slot-below (c .before .before .before .before .before .before .before .before .before .before .before .before .before .before .before .before .before .before .before .before .before .before .args .setup) (c .before .before .before .before .before .before .before .before .step .result) (c .before .before .before .before .before .before .before .before .before .before .before .before .before .before .before .before .before .before .before .before .before .before .pre .few) (c .before .before .before .before .before .before .before .before .step .ensures .3))
 
 gateway-after-requires : tie.Need-gateway-after-requires Inv-loop μ-loop
 gateway-after-requires c κs = search needs
 
 mul-gateways : tie.Need-mul-gateways Inv-loop μ-loop
-mul-gateways c = omega (arith, c .before .before .gateway-slot .ensures, gateway-slot-below (c .before .before .before .before .before .before .before .before .before .before .before .before .before .before .before .before .before .before .before .before .before .before .args .setup) (c .before .before .before .before .before .before .before .before .step .result) (c .before .before .before .before .before .before .before .before .before .before .before .before .before .before .before .before .before .before .before .before .before .before .pre .few) (c .before .before .before .before .before .before .before .before .step .ensures .3))
+mul-gateways c = omega (arith, c .before .before .gateway-slot .ensures, gateway-slot-below (c .before .before .before .before .before .before .before .before .before .before .before .before .before .before .before .before .before .before .before .before .before .before .before .before .args .setup) (c .before .before .before .before .before .before .before .before .before .before .step .result) (c .before .before .before .before .before .before .before .before .before .before .before .before .before .before .before .before .before .before .before .before .before .before .before .before .pre .few) (c .before .before .before .before .before .before .before .before .before .before .step .ensures .3))
 
 array-set-from-gateways : tie.Need-array-set-from-gateways Inv-loop μ-loop
-array-set-from-gateways c = omega (arith, c .before .before .gateway-slot .ensures, gateway-slot-below (c .before .before .before .before .before .before .before .before .before .before .before .before .before .before .before .before .before .before .before .before .before .before .args .setup) (c .before .before .before .before .before .before .before .before .step .result) (c .before .before .before .before .before .before .before .before .before .before .before .before .before .before .before .before .before .before .before .before .before .before .pre .few) (c .before .before .before .before .before .before .before .before .step .ensures .3))
+array-set-from-gateways c = omega (arith, c .before .before .gateway-slot .ensures, gateway-slot-below (c .before .before .before .before .before .before .before .before .before .before .before .before .before .before .before .before .before .before .before .before .before .before .before .before .args .setup) (c .before .before .before .before .before .before .before .before .before .before .step .result) (c .before .before .before .before .before .before .before .before .before .before .before .before .before .before .before .before .before .before .before .before .before .before .before .before .pre .few) (c .before .before .before .before .before .before .before .before .before .before .step .ensures .3))
 
 byte-slot-requires : tie.Need-byte-slot-requires Inv-loop μ-loop
 byte-slot-requires c κs = search needs
 
 mul-byte-after : tie.Need-mul-byte-after Inv-loop μ-loop
-mul-byte-after c = omega (arith, c .byte-slot .ensures, byte-slot-below (c .before .before .before .before .before .before .before .before .before .before .before .before .before .before .before .before .before .before .before .before .before .before .before .args .setup) (c .before .before .before .before .before .before .before .before .before .step .result) (c .before .before .before .before .before .before .before .before .before .step .ensures .3))
+mul-byte-after c = omega (arith, c .byte-slot .ensures, byte-slot-below (c .before .before .before .before .before .before .before .before .before .before .before .before .before .before .before .before .before .before .before .before .before .before .before .before .before .args .setup) (c .before .before .before .before .before .before .before .before .before .before .before .step .result) (c .before .before .before .before .before .before .before .before .before .before .before .step .ensures .3))
 
 array-read-byte-after : tie.Need-array-read-byte-after Inv-loop μ-loop
-array-read-byte-after c = omega (arith, c .byte-slot .ensures, byte-slot-below (c .before .before .before .before .before .before .before .before .before .before .before .before .before .before .before .before .before .before .before .before .before .before .before .args .setup) (c .before .before .before .before .before .before .before .before .before .step .result) (c .before .before .before .before .before .before .before .before .before .step .ensures .3))
+array-read-byte-after c = omega (arith, c .byte-slot .ensures, byte-slot-below (c .before .before .before .before .before .before .before .before .before .before .before .before .before .before .before .before .before .before .before .before .before .before .before .before .before .args .setup) (c .before .before .before .before .before .before .before .before .before .before .before .step .result) (c .before .before .before .before .before .before .before .before .before .before .before .step .ensures .3))
 
 byte-after-requires : tie.Need-byte-after-requires Inv-loop μ-loop
 byte-after-requires c κs = search needs
 
 mul-bytes : tie.Need-mul-bytes Inv-loop μ-loop
-mul-bytes c = omega (arith, c .before .byte-slot .ensures, byte-slot-below (c .before .before .before .before .before .before .before .before .before .before .before .before .before .before .before .before .before .before .before .before .before .before .before .before .args .setup) (c .before .before .before .before .before .before .before .before .before .before .step .result) (c .before .before .before .before .before .before .before .before .before .before .step .ensures .3))
+mul-bytes c = omega (arith, c .before .byte-slot .ensures, byte-slot-below (c .before .before .before .before .before .before .before .before .before .before .before .before .before .before .before .before .before .before .before .before .before .before .before .before .before .before .args .setup) (c .before .before .before .before .before .before .before .before .before .before .before .before .step .result) (c .before .before .before .before .before .before .before .before .before .before .before .before .step .ensures .3))
 
 array-write-bytes : tie.Need-array-write-bytes Inv-loop μ-loop
-array-write-bytes c = omega (arith, c .before .byte-slot .ensures, byte-slot-below (c .before .before .before .before .before .before .before .before .before .before .before .before .before .before .before .before .before .before .before .before .before .before .before .before .args .setup) (c .before .before .before .before .before .before .before .before .before .before .step .result) (c .before .before .before .before .before .before .before .before .before .before .step .ensures .3))
+array-write-bytes c = omega (arith, c .before .byte-slot .ensures, byte-slot-below (c .before .before .before .before .before .before .before .before .before .before .before .before .before .before .before .before .before .before .before .before .before .before .before .before .before .before .args .setup) (c .before .before .before .before .before .before .before .before .before .before .before .before .step .result) (c .before .before .before .before .before .before .before .before .before .before .before .before .step .ensures .3))
 
 waits-after-requires : tie.Need-waits-after-requires Inv-loop μ-loop
-waits-after-requires c κs = (c .before .before .before .before .before .before .before .before .before .before .before .before .before .before .before .before .before .before .before .before .before .before .before .before .pre .few, c .before .before .before .before .before .before .before .before .before .before .step .ensures .3)
+waits-after-requires c κs = (c .before .before .before .before .before .before .before .before .before .before .before .before .before .before .before .before .before .before .before .before .before .before .before .before .before .before .pre .few, c .before .before .before .before .before .before .before .before .before .before .before .before .step .ensures .3)
 
 add-i : tie.Need-add-i Inv-loop μ-loop
 add-i c = omega arith
@@ -136,33 +136,37 @@ loop-less : tie.Need-loop-less Inv-loop μ-loop
 loop-less c = omega arith
 
 loop-again : tie.Need-loop-again Inv-loop μ-loop
-loop-again c = let a = c .before .before .before .before .before .before .before .before .before .before .before .before .before .before .before .before .before .before .before .before .before .before .before .before .before .args in
-    let p = c .before .before .before .before .before .before .before .before .before .before .before .before .before .before .before .before .before .before .before .before .before .before .before .before .before .pre in
-    let l = c .before .before .before .before .before .before .before .before .before .before .before .before .before .before .before .before .before .before .before .loop in
-    let r = c .before .before .before .before .before .before .before .before .before .before .before .before .before .before .before .before .recipient in
-    let z = c .before .before .before .before .before .before .before .before .before .before .before .step in
+loop-again c = let a = c .before .before .before .before .before .before .before .before .before .before .before .before .before .before .before .before .before .before .before .before .before .args in
+    let p = c .before .before .before .before .before .before .before .before .before .before .before .before .before .before .before .before .before .before .before .before .before .pre in
+    let l = c .before .before .before .before .before .before .before .before .before .before .before .before .before .before .before .loop in
+    let r = c .before .before .before .before .before .before .before .before .before .before .before .before .recipient in
+    let z = c .before .before .before .before .before .before .before .step in
     let d = z .result in
-    let t = c .before .before .before .before .before .gateway-slot in
-    let g = c .before .before .before .gateway-after in
-    let b = c .before .before .byte-slot in
-    let v = c .before .byte-after in
-    let w₀ : World = record { state = start; registers = a .registers .now; counts = a .counts .now; outcomes = a .outcomes .now } in (
-      omega (arith, c .before .before .before .before .before .before .before .before .before .before .before .before .before .before .before .before .before .before .loop-test .taken),
-      turn (a .recording .now) (a .setup) (l .i) w₀ _ (c .before .before .before .before .before .before .before .before .before .before .before .before .before .before .before .if1 .gate) d (l .gateways) (l .bytes) (l .waits) (l .registers) (l .counts) (l .outcomes)
+    let k = c .before .changes-state in
+    let w₀ : World = record { state = start; registers = a .registers .now; counts = a .counts .now; outcomes = a .outcomes .now } in
+    let eg : c .if2 .gateways ≡ gatewaysAfter d (l .gateways) = ⊎-elim
+    (λ w. w .7 ∙ (λ j. set (l .gateways) (w .1 .ensures j) ((w .3 .ensures ∙ ap (λ (t : ℕ). gatewayAfter d (gatewayAt (l .gateways) t)) (w .1 .ensures)) j)) ∙ one-gateway d (l .gateways))
+    (λ w. w .1 ∙ same-gateways d (l .gateways) (sym (k .ensures) ∙ w .0 .left)) (c .if2 .came) in
+    let eb : c .if2 .bytes ≡ bytesAfter d (l .bytes) = ⊎-elim
+    (λ w. w .8 ∙ (λ j. set (l .bytes) (w .4 .ensures j) ((w .5 .ensures ∙ ap (λ (b : ℕ). byteAfter d (getD (l .bytes) b 0)) (w .4 .ensures)) j)) ∙ one-byte d (l .bytes))
+    (λ w. w .2 ∙ same-bytes d (l .bytes) (sym (k .ensures) ∙ w .0 .left)) (c .if2 .came) in
+    let ew : c .if2 .waits ≡ waitsAfter d (a .setup) (l .waits) = ⊎-elim (λ w. w .9 ∙ w .6 .ensures) (λ w. w .3 ∙ same-waits d (a .setup) (l .waits) (sym (k .ensures) ∙ w .0 .left)) (c .if2 .came) in (
+      omega (arith, c .before .before .before .before .before .before .before .before .before .before .before .before .before .before .loop-test .taken),
+      turn (a .recording .now) (a .setup) (l .i) w₀ _ (c .before .before .before .before .before .before .before .before .before .before .before .if1 .gate) d (l .gateways) (l .bytes) (l .waits) (l .registers) (l .counts) (l .outcomes)
           (part-is (a .recording .now) (a .setup .threads) (l .i) (p .same))
-          (⊎-elim (λ w. w .2 ∙ ap (gatewayAt (l .gateways)) (r .ensures)) (λ w. w .1 ∙ no-gateway (l .gateways) (r .result) (l .inv .5) (w .0 .left) ∙ ap (gatewayAt (l .gateways)) (r .ensures)) (c .before .before .before .before .before .before .before .before .before .before .before .before .before .before .before .if1 .came))
+          (⊎-elim (λ w. w .2 ∙ ap (gatewayAt (l .gateways)) (r .ensures)) (λ w. w .1 ∙ no-gateway (l .gateways) (r .result) (l .inv .5) (w .0 .left) ∙ ap (gatewayAt (l .gateways)) (r .ensures)) (c .before .before .before .before .before .before .before .before .before .before .before .if1 .came))
           (l .inv .1)
           (z .ensures .0)
-          ((λ j. set (l .gateways) (t .ensures j) ((g .ensures ∙ ap (λ (k : ℕ). gatewayAfter d (gatewayAt (l .gateways) k)) (t .ensures)) j)) ∙ one-gateway d (l .gateways))
-          ((λ j. set (l .bytes) (b .ensures j) ((v .ensures ∙ ap (λ (k : ℕ). byteAfter d (getD (l .bytes) k 0)) (b .ensures)) j)) ∙ one-byte d (l .bytes))
-          (c .waits-after .ensures)
+          eg
+          eb
+          ew
           (z .ensures .1)
           (z .ensures .2)
-          (c .before .before .before .before .before .before .outcome .ensures),
+          (c .before .before .outcome .ensures),
       z .kept .1 .1 .1 .1 .0 ∙ l .inv .2,
       z .kept .1 .1 .1 .1 .1 .0 ∙ l .inv .3,
       simp length-set (l .inv .4),
-      simp length-set (l .inv .5),
+      ap length eg ∙ gateways-long d (l .gateways) ∙ l .inv .5,
     )
 
 same-length : tie.Need-same-length Inv-loop μ-loop
@@ -201,6 +205,7 @@ run-spec =
     step-requires
     outcome-requires
     slice-write-outcomes
+    changes-state-requires
     gateway-slot-requires
     mul-g
     array-copy-out-g
