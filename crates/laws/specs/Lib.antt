@@ -1,3 +1,5 @@
 pub mod Rows
 pub mod BitRanges
 pub mod Find
+pub mod AnyOf
+pub mod Filled

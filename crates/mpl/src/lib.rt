@@ -3,6 +3,7 @@ ghost use mathlib.Core.Path.{_≡_};
 ghost use Rattle.deltas.specs.InPlay.{inPlay, counted};
 ghost use Rattle.batch.specs.Answers.{answerOf, recordsOf, bytesAnswerOf, bytesRecordsOf};
 ghost use Rattle.scoreboard.specs.Answers as order;
+ghost use Rattle.gateway.specs.Replay.{replayOf};
 
 // The batch check over little-endian bytes.
 #[no_mangle]
@@ -62,4 +63,17 @@ pub extern "C" fn mpl_check_order_dwords(
     ensures { λ r. ⌜ (r ≡ order.answerOf capacity (now (batch .entry)) (now (run .entry)) (now (records .entry)) (now (states .entry))) × (now (records .exit) ≡ order.recordsOf capacity (now (batch .entry)) (now (run .entry)) (now (records .entry)) (now (states .entry))) × (now (states .exit) ≡ order.statesOf capacity (now (batch .entry)) (now (run .entry)) (now (records .entry)) (now (states .entry))) ⌝ }
 {
     scoreboard::check(batch, capacity, run, records, states)
+}
+
+// The gateway replay.
+#[no_mangle]
+pub extern "C" fn mpl_replay(
+    recording: &[u8],
+    registers: &mut [u8],
+    counts: &mut [u32],
+    outcomes: &mut [u8],
+) -> gateway::Replayed
+    ensures { λ r. ⌜ (r ≡ replayOf (now (recording .entry)) (now (registers .entry)) (now (counts .entry)) (now (outcomes .entry)) .answer) × (now (registers .exit) ≡ replayOf (now (recording .entry)) (now (registers .entry)) (now (counts .entry)) (now (outcomes .entry)) .registers) × (now (counts .exit) ≡ replayOf (now (recording .entry)) (now (registers .entry)) (now (counts .entry)) (now (outcomes .entry)) .counts) × (now (outcomes .exit) ≡ replayOf (now (recording .entry)) (now (registers .entry)) (now (counts .entry)) (now (outcomes .entry)) .outcomes) ⌝ }
+{
+    gateway::replay(recording, registers, counts, outcomes)
 }

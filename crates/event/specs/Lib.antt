@@ -1,0 +1,5 @@
+pub mod Head
+pub mod Codes
+pub mod Groups
+pub mod Outcomes
+pub mod Within

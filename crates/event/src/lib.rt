@@ -1,0 +1,80 @@
+// One event of a recording: its bytes 0 to 15, and what the rules decide of them.
+pub mod barrier;
+pub mod decide;
+pub mod form;
+pub mod heads;
+
+// What an event's bytes 0 to 15 say.
+pub struct Head {
+    pub kind: u32,
+    pub sender: usize,
+    pub ack: u32,
+    pub notify: u32,
+    // end of thread
+    pub ending: u32,
+    pub stray: u32,
+    // ack register
+    pub register: usize,
+    // forward: recipient; update: barrier
+    pub target: usize,
+    // open: size code; forward: length code; update: barrier byte
+    pub code: u32,
+    pub key: u32,
+    // open: register base; forward: offset
+    pub place: u32,
+    // bytes 10 to 15, by pairs, added up
+    pub padding: u32,
+}
+
+// What the recording's header says of every event: how many threads, bypass, and each thread's barrier group.
+pub struct Setup {
+    pub threads: usize,
+    pub bypass: u32,
+    pub groups: [u8; 16],
+}
+
+// A thread's gateway. All are 0 where it is closed; `live` is 1 where it is open.
+#[repr(C)]
+pub struct Gateway {
+    pub live: u32,
+    pub base: u32,
+    // the size code
+    pub size: u32,
+    pub key: u32,
+}
+
+// What an event does.
+pub enum Decision {
+    // nothing, for the reason of this number
+    Refused {
+        number: u8,
+    },
+    Open {
+        thread: usize,
+        base: u32,
+        size: u32,
+        key: u32,
+    },
+    Close {
+        thread: usize,
+    },
+    // so many bytes of data go to the registers from `at` on
+    Forward {
+        to: usize,
+        at: usize,
+        count: usize,
+        notify: u32,
+    },
+    // a thread waits at its group's barrier
+    Wait {
+        thread: usize,
+    },
+    // every member of the group has come
+    Release {
+        group: u8,
+    },
+    Update {
+        barrier: usize,
+        byte: u32,
+    },
+}

@@ -1,0 +1,118 @@
+-- What holds after every event: each gateway's window lies in its thread's registers, and no count is above the number of events. Assumes nothing.
+use mathlib.Core.Path.{_≡_, refl, sym, ap, _∙_}
+use mathlib.Core.Bool.{Bool, true, false}
+use mathlib.Core.List.{List, [], _∷_}
+use Prim.Native.Nat.{ℕ, zero, suc, _+_, _*_, _^_, _≤_, _<_}
+use native.Mathlib.Omega.{arith}
+use lib.Dec.{eqb}
+use lib.ListN.{getD, set, replicate}
+use Rattle.laws.proofs.Choices.{by-cond}
+use Rattle.event.specs.declared.Setup.{Setup}
+use Rattle.event.specs.declared.Gateway.{Gateway}
+use Rattle.event.specs.declared.Decision.{Decision}
+use Rattle.event.specs.declared.Decision.the-variants.{Refused, Open, Close, Forward, Wait, Release, Update}
+use Rattle.event.specs.Head.{headOf}
+use Rattle.event.specs.Codes.{closed, gatewayAt, Window}
+use Rattle.event.specs.Groups.{groupOf}
+use Rattle.event.specs.Outcomes.{decisionOf}
+use Rattle.event.specs.Within.{Within}
+use Rattle.event.proofs.Reach.{decision-within}
+use Rattle.gateway.specs.Recording.{eventAt}
+use Rattle.gateway.specs.Effects.{gatewaysAfter, notified, paid, countsAfter}
+use Rattle.gateway.specs.Replay.{World, decisionIn, stepOf, runOf}
+use Rattle.gateway.proofs.Groups.{paid-later}
+
+-- what holds of each element, and of the default, holds after a store of what it holds of
+all-set : {A : Type 0} (P : A → Type 0) (l : List A) (d : A) (w : ℕ) (v : A) → ((i : ℕ) → P (getD l i d)) → P v → (i : ℕ) → P (getD (set l w v) i d)
+all-set P [] d w v h p i = h i
+all-set P (x ∷ xs) d zero v h p zero = p
+all-set P (x ∷ xs) d zero v h p (suc i) = h (suc i)
+all-set P (x ∷ xs) d (suc w) v h p zero = h zero
+all-set P (x ∷ xs) d (suc w) v h p (suc i) = all-set P xs d w v (λ k. h (suc k)) p i
+
+all-replicate : {A : Type 0} (P : A → Type 0) (d : A) (n : ℕ) → P d → (i : ℕ) → P (getD (replicate n d) i d)
+all-replicate P d zero p i = p
+all-replicate P d (suc n) p zero = p
+all-replicate P d (suc n) p (suc i) = all-replicate P d n p i
+
+-- ---- windows
+
+abbrev pub Windows : List Gateway → Type 0
+Windows gs = (t : ℕ) → Window (gatewayAt gs t)
+
+pub closed-window : Window closed
+closed-window = record { code = omega arith; fits = omega arith }
+
+pub start-windows : Windows (replicate 16 closed)
+start-windows t = all-replicate Window closed 16 closed-window t
+
+windows-after : (s : Setup) (d : Decision) (gs : List Gateway) → Within s d → Windows gs → Windows (gatewaysAfter d gs)
+unfolding Within gatewaysAfter
+windows-after s (Refused n) gs w v = v
+windows-after s (Open t b z k) gs w v = all-set Window gs closed t _ v (w .1)
+windows-after s (Close t) gs w v = all-set Window gs closed t _ v closed-window
+windows-after s (Forward r a n m) gs w v = v
+windows-after s (Wait t) gs w v = v
+windows-after s (Release g) gs w v = v
+windows-after s (Update b v′) gs w v = v
+
+module _ (rec : List ℕ) (s : Setup) where
+  pub run-windows : (n : ℕ) (w : World) → Windows (w .state .gateways) → Windows (runOf rec s n w .state .gateways)
+  unfolding runOf stepOf
+  run-windows zero w v = v
+  run-windows (suc n) w v =
+      let q = runOf rec s n w .state in
+      let u = run-windows n w v in
+      let h = headOf (eventAt rec n) in
+      windows-after s (decisionIn s (eventAt rec n) q) (q .gateways) (decision-within h s (gatewayAt (q .gateways) (h .target)) (q .waits) (u (h .target))) u
+
+  -- the gateways that event n meets
+  pub met-windows : (n : ℕ) (w : World) (gs : List Gateway) → Windows (w .state .gateways) → gs ≡ runOf rec s n w .state .gateways → Windows gs
+  met-windows n w gs v e t = rw e (run-windows n w v t)
+
+-- ---- counts
+
+abbrev Most : ℕ → List ℕ → Type 0
+Most n cs = (k : ℕ) → getD cs k 0 ≤ n
+
+set-most : (cs : List ℕ) (n j v : ℕ) → Most n cs → v ≤ n → Most n (set cs j v)
+set-most cs n j v h p = all-set (λ (x : ℕ). x ≤ n) cs 0 j v h p
+
+more : (n : ℕ) (cs : List ℕ) → Most n cs → Most (n + 1) cs
+more n cs h k = omega (arith, h k)
+
+notified-most : (r m n : ℕ) (cs : List ℕ) → Most n cs → Most (n + 1) (notified r m cs)
+unfolding notified
+notified-most r m n cs h =
+    by-cond (Most (n + 1)) (eqb m 1) _ _ (λ _. set-most cs (n + 1) (2 * r) _ (more n cs h) (omega (arith, h (2 * r)))) λ _.
+    by-cond (Most (n + 1)) (eqb m 2) _ _ (λ _. set-most cs (n + 1) (2 * r + 1) _ (more n cs h) (omega (arith, h (2 * r + 1)))) λ _. more n cs h
+
+paid-most : (groups : List ℕ) (g : ℕ) (cs : List ℕ) (n m : ℕ) → Most n cs → Most (n + 1) (paid m groups g cs)
+unfolding paid
+paid-most groups g cs n zero h = more n cs h
+paid-most groups g cs n (suc m) h =
+    let ih = paid-most groups g cs n m h in
+    by-cond (Most (n + 1)) (eqb (groupOf groups m) g) _ _
+    (λ _. set-most (paid m groups g cs) (n + 1) (2 * m) _ ih (omega (arith, paid-later groups g cs m (2 * m) (omega arith), h (2 * m)))) (λ _. ih)
+
+counts-most : (d : Decision) (s : Setup) (cs : List ℕ) (n : ℕ) → Most n cs → Most (n + 1) (countsAfter d s cs)
+unfolding countsAfter
+counts-most (Refused x) s cs n h = more n cs h
+counts-most (Open t b z k) s cs n h = more n cs h
+counts-most (Close t) s cs n h = more n cs h
+counts-most (Forward r a x m) s cs n h = notified-most r m n cs h
+counts-most (Wait t) s cs n h = more n cs h
+counts-most (Release g) s cs n h = paid-most (s .groups) g cs n (s .threads) h
+counts-most (Update b v) s cs n h = more n cs h
+
+module _ (rec : List ℕ) (s : Setup) (w : World) (clear : (k : ℕ) → getD (w .counts) k 0 ≡ 0) where
+  run-most : (n : ℕ) → Most n (runOf rec s n w .counts)
+  unfolding runOf stepOf
+  run-most zero = λ k. omega (arith, clear k)
+  run-most (suc n) = λ k.
+      let q = runOf rec s n w in
+      omega (arith, counts-most (decisionIn s (eventAt rec n) (q .state)) s (q .counts) n (run-most n) k)
+
+  -- no count can wrap
+  pub run-low : (n : ℕ) (cs : List ℕ) → cs ≡ runOf rec s n w .counts → n < 65536 → (k : ℕ) → getD cs k 0 < 4294967295
+  run-low n cs e h k = rw e (omega (arith, run-most n k))

@@ -1,0 +1,11 @@
+pub mod Groups
+pub mod Header
+pub mod Acks
+pub mod Turns
+pub mod Bounds
+pub mod Masks
+pub mod Accepted
+pub mod Counts
+pub mod Events
+pub mod Barriers
+pub mod Claimed

@@ -1,0 +1,13 @@
+use mathlib.Core.Path.{_≡_}
+use borrow.Author.Needs.{needs}
+use Rattle.gateway.proofs.answer.ended.Statement.{statement}
+use Rattle.gateway.proofs.answer.ended.Tie as tie
+
+barriers-requires : tie.Need-barriers-requires
+barriers-requires c κs = search needs
+
+returns : tie.Need-returns
+returns c = λ j. record { number = 0; gateways = c .before .before .args .state .gateways; barriers = c .barriers .ensures j }
+
+pub ended-spec : {M : Type 1} → statement M
+ended-spec = tie.close (tie.spec barriers-requires returns)

@@ -1,0 +1,66 @@
+use mathlib.Core.Path.{_≡_, refl, sym, ap, _∙_}
+use native.Mathlib.Omega.{arith}
+use Rattle.gateway.specs.Replay.{World, Replay}
+use Rattle.gateway.proofs.Accepted.{set-up, few, running, refused-whole, replayed-whole}
+use borrow.Author.Needs.{needs}
+use Rattle.gateway.proofs.replay.Statement.{statement}
+use Rattle.gateway.proofs.replay.Tie as tie
+
+refusal-requires : tie.Need-refusal-requires
+refusal-requires c κs = search needs
+
+refused-requires : tie.Need-refused-requires
+refused-requires c κs = search needs
+
+returns : tie.Need-returns
+returns c = let e = refused-whole (c .before .before .before .before .before .before .before .args .recording .now) (c .before .before .before .before .before .before .before .args .registers .now) (c .before .before .before .before .before .before .before .args .counts .now) (c .before .before .before .before .before .before .before .args .outcomes .now) (c .before .before .refusal .ensures) (c .before .if1 .taken) in
+    (c .refused .ensures ∙ ap (λ (x : Replay). x .answer) e, ap (λ (x : Replay). x .registers) e, ap (λ (x : Replay). x .counts) e, ap (λ (x : Replay). x .outcomes) e)
+
+clear-requires : tie.Need-clear-requires
+clear-requires c κs = search needs
+
+setup-requires : tie.Need-setup-requires
+setup-requires c κs = set-up (c .before .before .before .before .before .before .before .before .before .before .args .recording .now) (c .before .before .before .before .before .before .before .before .before .before .args .registers .now) (c .before .before .before .before .before .before .before .before .before .before .args .counts .now) (c .before .before .before .before .before .before .before .before .before .before .args .outcomes .now) (sym (c .before .before .before .before .before .refusal .ensures) ∙ c .before .before .before .before .if1 .left)
+
+half-requires : tie.Need-half-requires
+half-requires c κs = let h = set-up (c .before .before .before .before .before .before .before .before .before .before .before .args .recording .now) (c .before .before .before .before .before .before .before .before .before .before .before .args .registers .now) (c .before .before .before .before .before .before .before .before .before .before .before .args .counts .now) (c .before .before .before .before .before .before .before .before .before .before .before .args .outcomes .now) (sym (c .before .before .before .before .before .before .refusal .ensures) ∙ c .before .before .before .before .before .if1 .left) in omega arith
+
+cast-events : tie.Need-cast-events
+cast-events c = search needs
+
+run-requires : tie.Need-run-requires
+run-requires c κs = running (c .before .before .before .before .before .before .before .before .before .before .before .before .before .before .before .args .recording .now) (c .before .before .before .before .before .before .before .before .before .before .before .before .before .before .before .args .registers .now) (c .before .before .before .before .before .before .before .before .before .before .before .before .before .before .before .args .counts .now) (c .before .before .before .before .before .before .before .before .before .before .before .before .before .before .before .args .outcomes .now) (sym (c .before .before .before .before .before .before .before .before .before .before .refusal .ensures) ∙ c .before .before .before .before .before .before .before .before .before .if1 .left) (c .before .before .before .before .setup .result) (c .before .before .before .half .result) _ (c .before .before .before .before .setup .ensures) (c .before .before .before .half .ensures .0) (c .before .before .before .half .ensures .1) (c .before .before .before .before .before .before .before .clear .ensures)
+
+ended-requires : tie.Need-ended-requires
+ended-requires c κs = few (c .before .before .before .before .before .before .before .before .before .before .before .before .before .before .before .before .before .before .before .before .before .before .args .recording .now) (c .before .before .before .before .before .before .before .before .before .before .before .before .before .before .before .before .before .before .before .before .before .before .args .registers .now) (c .before .before .before .before .before .before .before .before .before .before .before .before .before .before .before .before .before .before .before .before .before .before .args .counts .now) (c .before .before .before .before .before .before .before .before .before .before .before .before .before .before .before .before .before .before .before .before .before .before .args .outcomes .now) (sym (c .before .before .before .before .before .before .before .before .before .before .before .before .before .before .before .before .before .refusal .ensures) ∙ c .before .before .before .before .before .before .before .before .before .before .before .before .before .before .before .before .if1 .left) (c .before .before .before .before .before .before .before .before .before .before .before .setup .result) (c .before .before .before .before .before .before .before .before .before .before .before .setup .ensures)
+
+same-length : tie.Need-same-length
+same-length c = search needs
+
+same-length-2 : tie.Need-same-length-2
+same-length-2 c = search needs
+
+same-length-3 : tie.Need-same-length-3
+same-length-3 c = search needs
+
+returns-2 : tie.Need-returns-2
+returns-2 c = let e = replayed-whole (c .before .before .before .before .before .before .before .before .before .before .before .before .before .before .before .before .before .before .before .before .before .before .before .args .recording .now) (c .before .before .before .before .before .before .before .before .before .before .before .before .before .before .before .before .before .before .before .before .before .before .before .args .registers .now) (c .before .before .before .before .before .before .before .before .before .before .before .before .before .before .before .before .before .before .before .before .before .before .before .args .counts .now) (c .before .before .before .before .before .before .before .before .before .before .before .before .before .before .before .before .before .before .before .before .before .before .before .args .outcomes .now) (c .before .before .before .before .before .before .before .before .before .before .before .before .before .before .before .before .before .before .refusal .ensures) (c .before .before .before .before .before .before .before .before .before .before .before .before .before .before .before .before .before .if1 .left) (c .before .before .before .before .before .before .before .before .before .before .before .before .setup .result) (c .before .before .before .before .before .before .before .before .before .before .before .half .result) _ _ (c .before .before .before .before .before .before .before .before .before .before .before .before .setup .ensures) (c .before .before .before .before .before .before .before .before .before .before .before .half .ensures .0) (c .before .before .before .before .before .before .before .before .before .before .before .before .before .before .before .clear .ensures) (c .before .before .before .before .before .before .before .run .ensures) in
+    (c .ended .ensures ∙ ap (λ (x : Replay). x .answer) e, ap (λ (x : Replay). x .registers) e, ap (λ (x : Replay). x .counts) e, ap (λ (x : Replay). x .outcomes) e)
+
+pub replay-spec : {M : Type 1} → statement M
+replay-spec =
+    tie.close
+    (tie.spec
+    refusal-requires
+    refused-requires
+    returns
+    clear-requires
+    setup-requires
+    half-requires
+    cast-events
+    run-requires
+    ended-requires
+    same-length
+    same-length-2
+    same-length-3
+    returns-2)

@@ -1,0 +1,4 @@
+pub mod Recording
+pub mod Effects
+pub mod Replay
+pub mod Claims
