@@ -1,9 +1,9 @@
 /*
- * The checker of media command batches, for C. Link libmpl.a (`rt staticlib mpl`).
+ * The checker of media command batches, of runs and of gateway recordings, for C. Link libmpl.a (`rt staticlib mpl`).
  *
  * What a caller owes: each pointer is valid for its length, in elements; it may be null only where that length is 0; dwords are
  * aligned; no two buffers overlap, and nobody else writes them during the call. In return no function here stops, allocates,
- * keeps a pointer, or reads or writes outside what it was lent, whatever the batch holds.
+ * keeps a pointer, or reads or writes outside what it was lent, whatever the batch, run or recording holds.
  */
 #ifndef MPL_H
 #define MPL_H
@@ -144,6 +144,62 @@ struct mpl_order mpl_check_order_dwords(const uint32_t *batch, size_t batch_len,
 /* The same over little-endian bytes; also 17, of the batch, then of the run, before all others, on which nothing is changed either. */
 struct mpl_order mpl_check_order(const uint8_t *batch, size_t batch_len, uint32_t capacity, const uint8_t *run, size_t run_len,
                                  uint8_t *records, size_t records_len, uint8_t *states, size_t states_len);
+
+/* Why a whole recording is turned away. */
+enum {
+    MPL_RECORDING_MARK = 11,    /* under 10 bytes, or wrong mark */
+    MPL_RECORDING_VERSION = 12,
+    MPL_RECORDING_HEADER = 13,  /* threads not 1 to 16, bypass over 1, or byte 9 not zero */
+    MPL_RECORDING_LENGTH = 14,  /* length is not 10 + threads + 48 x events */
+    MPL_RECORDING_GROUP = 15,   /* a group byte neither 0 to 15 nor 255 */
+    MPL_RECORDING_ROOM = 16     /* registers not 4,096 bytes a thread, counts not two a thread, or fewer outcome bytes than events */
+};
+
+/* Outcome bytes, one for each event; 0: accepted. */
+enum {
+    MPL_EVENT_MALFORMED = 31,
+    MPL_EVENT_NOT_SERVED = 32,  /* kind 3 or 6; kind 0 or 1 under bypass */
+    MPL_OPEN_PAST_END = 33,     /* base + 2^size code over 128 registers */
+    MPL_NO_RECIPIENT = 34,      /* forward: recipient not a thread */
+    MPL_GATEWAY_CLOSED = 35,
+    MPL_KEY_DIFFERS = 36,
+    MPL_PAST_WINDOW = 37,       /* offset + 2^length code bytes over the window */
+    MPL_NO_GROUP = 38,          /* barrier: sender has no group */
+    MPL_WAITS_ALREADY = 39
+};
+
+enum {
+    MPL_THREADS_MOST = 16,
+    MPL_THREAD_REGISTER_BYTES = 4096,
+    MPL_COUNTS_PER_THREAD = 2   /* N0, then N2 */
+};
+
+/* A thread's gateway: open is 1 or 0; size is the size code. All 0 where it is closed. */
+struct mpl_gateway {
+    uint32_t open, base, size, key;
+};
+
+/* A barrier: bit t of waiting is set where thread t waits. */
+struct mpl_barrier {
+    uint32_t byte, waiting;
+};
+
+/* number 0: replayed, with the gateways and barriers at the end; else 11 to 16, with every gateway closed and every barrier empty. */
+struct mpl_replayed {
+    uint32_t number;
+    struct mpl_gateway gateways[16];
+    struct mpl_barrier barriers[16];
+};
+
+/*
+ * What did each thread's messages do? Of T threads and E events, `registers` is 4,096 bytes a thread, thread 0's first, `counts` two numbers
+ * a thread, `outcomes` at least one byte an event.
+ * 0: `registers` holds what it held, with the accepted forwards and the acknowledgements written in the events' order; `counts` holds the
+ * notifications, counted from 0; outcomes[i] is event i's; outcome bytes past the events are as they were.
+ * 11 to 16: registers, counts and outcomes are as they were, all of them. The recording is never written.
+ */
+struct mpl_replayed mpl_replay(const uint8_t *recording, size_t recording_len, uint8_t *registers, size_t registers_len,
+                               uint32_t *counts, size_t counts_len, uint8_t *outcomes, size_t outcomes_len);
 
 /* lowest is 8 where no delta is in play. */
 struct mpl_in_play {
