@@ -6,6 +6,8 @@ use std::fmt::Write;
 
 pub mod batch;
 pub mod in_play;
+#[cfg(feature = "listing")]
+pub mod listing;
 #[cfg(feature = "order")]
 pub mod order;
 #[cfg(feature = "replay")]
@@ -98,7 +100,7 @@ impl Tally {
     }
 
     /// One more row to be reached.
-    #[cfg(feature = "order")]
+    #[cfg(any(feature = "listing", feature = "order"))]
     fn and(mut self, number: u64, of: &'static str) -> Self {
         *self.row(number, of) = 0;
         self

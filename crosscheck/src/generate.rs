@@ -1,5 +1,6 @@
 //! Generators of cases, one module per subject.
 
 pub mod batch;
+pub mod listing;
 pub mod order;
 pub mod replay;
