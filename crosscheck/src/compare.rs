@@ -6,6 +6,8 @@ use std::fmt::Write;
 
 pub mod batch;
 pub mod in_play;
+#[cfg(feature = "order")]
+pub mod isolation;
 #[cfg(feature = "listing")]
 pub mod listing;
 #[cfg(feature = "order")]

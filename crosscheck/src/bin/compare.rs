@@ -16,6 +16,8 @@ const SUBJECTS: &[Subject] = &[
     ("in_play", 0, compare::in_play::run),
     #[cfg(feature = "order")]
     ("order", 175_000, compare::order::run),
+    #[cfg(feature = "order")]
+    ("isolation", 40_000, compare::isolation::run),
     #[cfg(feature = "replay")]
     ("replay", 175_000, compare::replay::run),
     // A process each.

@@ -31,15 +31,7 @@ fn compare(
     dwords: &mut Tally,
     bytes: &mut Tally,
 ) -> Result<(), String> {
-    // Who reads past the run meets an event that might do.
-    let next = random.below(2 * case.states + 1) as u32;
-
-    let lent = Lent {
-        batch: Guarded::new(random, &case.batch.batch).followed_by(&[END]),
-        run: Guarded::new(random, &case.run).followed_by(&[next]),
-        records: Guarded::filled(random, case.batch.records),
-        states: Guarded::filled(random, case.states),
-    };
+    let lent = Lent::dwords(case, random);
     let entry = Entry {
         name: "dwords",
         library: ffi::check_order_dwords,
@@ -50,12 +42,7 @@ fn compare(
     let over_dwords = entry.compare(&lent, case.batch.capacity)?;
     dwords.count(over_dwords.number);
 
-    let lent = Lent {
-        batch: Guarded::new(random, &case.batch.bytes()).followed_by(&END.to_le_bytes()),
-        run: Guarded::new(random, &case.run_bytes()).followed_by(&next.to_le_bytes()),
-        records: Guarded::filled(random, case.batch.record_bytes()),
-        states: Guarded::filled(random, case.states),
-    };
+    let lent = Lent::bytes(case, random);
     let entry = Entry {
         name: "bytes",
         library: ffi::check_order,
@@ -82,11 +69,40 @@ fn compare(
 
 /// All that is lent for one call.
 #[derive(Clone)]
-struct Lent<T> {
-    batch: Guarded<T>,
-    run: Guarded<T>,
-    records: Guarded<T>,
-    states: Guarded<u8>,
+pub(super) struct Lent<T> {
+    pub batch: Guarded<T>,
+    pub run: Guarded<T>,
+    pub records: Guarded<T>,
+    pub states: Guarded<u8>,
+}
+
+impl Lent<u32> {
+    pub fn dwords(case: &Case, random: &mut Random) -> Self {
+        let next = next_event(case, random);
+        Lent {
+            batch: Guarded::new(random, &case.batch.batch).followed_by(&[END]),
+            run: Guarded::new(random, &case.run).followed_by(&[next]),
+            records: Guarded::filled(random, case.batch.records),
+            states: Guarded::filled(random, case.states),
+        }
+    }
+}
+
+impl Lent<u8> {
+    pub fn bytes(case: &Case, random: &mut Random) -> Self {
+        let next = next_event(case, random).to_le_bytes();
+        Lent {
+            batch: Guarded::new(random, &case.batch.bytes()).followed_by(&END.to_le_bytes()),
+            run: Guarded::new(random, &case.run_bytes()).followed_by(&next),
+            records: Guarded::filled(random, case.batch.record_bytes()),
+            states: Guarded::filled(random, case.states),
+        }
+    }
+}
+
+/// Who reads past the run meets an event that might do.
+fn next_event(case: &Case, random: &mut Random) -> u32 {
+    random.below(2 * case.states + 1) as u32
 }
 
 type Check<T> = fn(&[T], u32, &[T], &mut [T], &mut [u8]) -> Answer;

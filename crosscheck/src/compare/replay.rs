@@ -28,11 +28,23 @@ pub fn run(plan: &Plan, report: &mut Report) {
 
 /// All that is lent for one call.
 #[derive(Clone)]
-struct Lent {
-    recording: Guarded<u8>,
-    registers: Guarded<u8>,
-    counts: Guarded<u32>,
-    outcomes: Guarded<u8>,
+pub(super) struct Lent {
+    pub recording: Guarded<u8>,
+    pub registers: Guarded<u8>,
+    pub counts: Guarded<u32>,
+    pub outcomes: Guarded<u8>,
+}
+
+impl Lent {
+    /// No buffer starts at zeros, so that what is not written shows.
+    pub fn new(case: &Case, random: &mut Random) -> Self {
+        Lent {
+            recording: Guarded::new(random, &case.recording),
+            registers: Guarded::filled(random, case.registers),
+            counts: Guarded::filled(random, case.counts),
+            outcomes: Guarded::filled(random, case.outcomes),
+        }
+    }
 }
 
 /// How often each outcome occurs.
@@ -41,13 +53,7 @@ type Outcomes = [usize; 256];
 /// Both implementations over copies of the same buffers; gives the common number
 /// and the outcomes of the events.
 fn compare(case: &Case, random: &mut Random) -> Result<(u32, Outcomes), String> {
-    // No buffer starts at zeros, so that what is not written shows.
-    let lent = Lent {
-        recording: Guarded::new(random, &case.recording),
-        registers: Guarded::filled(random, case.registers),
-        counts: Guarded::filled(random, case.counts),
-        outcomes: Guarded::filled(random, case.outcomes),
-    };
+    let lent = Lent::new(case, random);
     let (library, by_library) = call(ffi::replay, &lent);
     let (second, by_second) = call(replay::replay, &lent);
     let mut faults = Faults::default();
@@ -111,9 +117,9 @@ fn compare(case: &Case, random: &mut Random) -> Result<(u32, Outcomes), String> 
     ))
 }
 
-type Replay = fn(&[u8], &mut [u8], &mut [u32], &mut [u8]) -> Replayed;
+pub(super) type Replay = fn(&[u8], &mut [u8], &mut [u32], &mut [u8]) -> Replayed;
 
-fn call(replay: Replay, lent: &Lent) -> (Replayed, Lent) {
+pub(super) fn call(replay: Replay, lent: &Lent) -> (Replayed, Lent) {
     let mut left = lent.clone();
     let answer = replay(
         left.recording.lent(),

@@ -6,6 +6,7 @@ use crate::masks;
 use crate::random::Random;
 
 /// What is lent to both entries.
+#[derive(Clone)]
 pub struct Case {
     pub batch: Vec<u32>,
     /// Bytes after the last whole dword, for the byte entry.
@@ -119,7 +120,7 @@ impl Command {
 }
 
 /// A dword that might be taken for a header.
-fn plausible(random: &mut Random) -> u32 {
+pub(super) fn plausible(random: &mut Random) -> u32 {
     match random.below(8) {
         0 => random.pick(&HEADERS),
         1 => random.pick(&HEADERS) ^ 1 << random.below(32),

@@ -11,6 +11,7 @@ pub use scene::{picture, spread, Layout, Object, Scene, Vfe};
 use scene::{Follower, Habit};
 
 /// What is lent to both entries.
+#[derive(Clone)]
 pub struct Case {
     pub batch: batch::Case,
     pub run: Vec<u32>,
@@ -61,7 +62,7 @@ pub fn random_case(random: &mut Random) -> Case {
 }
 
 /// A batch of any sort, refused ones included, with events that may fit it.
-fn any_batch(random: &mut Random) -> Case {
+pub(super) fn any_batch(random: &mut Random) -> Case {
     let batch = batch::random_case(random);
     let events = random.below(30);
     let objects = random.pick(&[1, 3, 30]);

@@ -1,0 +1,158 @@
+//! Two recordings that differ only in data bytes of forwards naming one thread,
+//! over registers that differ only in that thread's: all else ends the same, and
+//! its own registers differ only where they did or where a forward landed.
+
+use crate::compare::replay::{call, Lent};
+use crate::compare::{print_input, Faults, Plan, Report, Tally};
+use crate::ffi;
+use crate::generate::isolation::recordings::{random_case, sweep, Pair};
+use crate::guard::Guarded;
+use crate::random::Random;
+use crate::replay::{self, landings};
+
+pub fn run(plan: &Plan, report: &mut Report) {
+    let mut numbers = Tally::new(
+        "gateway replay, differing pairs",
+        [0].into_iter().chain([15, 16]),
+    );
+    let mut total = Differing::default();
+    plan.each(&sweep(plan.seed), random_case, |index, pair, random| {
+        let outcome = compare(pair, random).map(|(number, differing)| {
+            total.add(&differing);
+            // Recordings refused with 11 to 14 have no events to differ in.
+            if differing.data > 0 {
+                numbers.count(number.into());
+            }
+        });
+        report.case(outcome.map_err(|found| describe(plan.seed, index, pair, &found)));
+    });
+    if plan.only.is_none() {
+        total.print(report);
+        numbers.print(report);
+    }
+}
+
+/// Bytes that differ, in one pair or in all.
+#[derive(Default)]
+struct Differing {
+    /// Data bytes of forwards.
+    data: usize,
+    /// Bytes of the thread's registers that began and ended different.
+    kept: usize,
+    /// Bytes of the thread's registers that began equal and ended different.
+    landed: usize,
+}
+
+impl Differing {
+    fn add(&mut self, other: &Differing) {
+        self.data += other.data;
+        self.kept += other.kept;
+        self.landed += other.landed;
+    }
+
+    /// The claim is empty where no byte ends different.
+    fn print(&self, report: &mut Report) {
+        let Differing { data, kept, landed } = self;
+        println!(
+            "pairs of recordings: {data} data bytes differ; \
+             of register bytes that end different, {kept} began so, {landed} did not"
+        );
+        report.case(match (data, kept, landed) {
+            (1.., 1.., 1..) => Ok(()),
+            _ => Err("no byte ends different".into()),
+        });
+    }
+}
+
+/// Both recordings through the library; gives the common number.
+fn compare(pair: &Pair, random: &mut Random) -> Result<(u32, Differing), String> {
+    let own = pair.own_registers();
+    let first = Lent::new(&pair.first, random);
+    let mut second = first.clone();
+    second.recording.lent_mut().copy_from_slice(&pair.second);
+    change(random, &mut second.registers.lent_mut()[own.clone()]);
+
+    let (one, by_first) = call(ffi::replay, &first);
+    let (other, by_second) = call(ffi::replay, &second);
+    let mut faults = Faults::default();
+    if one != other {
+        faults.add("answers", &format!("{one:?} against {other:?}"));
+    }
+    faults.difference("counts", by_first.counts.difference(&by_second.counts));
+    faults.difference(
+        "outcomes",
+        by_first.outcomes.difference(&by_second.outcomes),
+    );
+    let (registers, others) = (&by_first.registers, &by_second.registers);
+    if !registers.differs_only_in(others, own.clone()) {
+        faults.difference("registers of others", registers.difference(others));
+    }
+    faults.difference(
+        "the first recording changed at",
+        by_first.recording.difference(&first.recording),
+    );
+    faults.difference(
+        "the second recording changed at",
+        by_second.recording.difference(&second.recording),
+    );
+
+    let landed = landed(pair, &first);
+    let mut differing = Differing {
+        data: pair.differing(),
+        ..Differing::default()
+    };
+    for at in own {
+        let differs =
+            |first: &Guarded<u8>, second: &Guarded<u8>| first.lent()[at] != second.lent()[at];
+        if !differs(registers, others) {
+            continue;
+        }
+        let began = differs(&first.registers, &second.registers);
+        differing.kept += usize::from(began);
+        differing.landed += usize::from(!began);
+        if !began && !landed[at] {
+            faults.add("register byte", &format!("{at} ends different"));
+        }
+    }
+    match faults.0.is_empty() {
+        true => Ok((one.number, differing)),
+        false => Err(format!("first against second:{}", faults.0)),
+    }
+}
+
+/// Changes all of the thread's registers, some bytes of them, or none.
+fn change(random: &mut Random, own: &mut [u8]) {
+    let bytes = match random.below(4) {
+        0 => own.len(),
+        1 | 2 => own.len().min(random.between(1, 200)),
+        _ => 0,
+    };
+    for _ in 0..bytes {
+        own[random.below(own.len())] = random.word() as u8;
+    }
+}
+
+/// The register bytes on which forwards to the thread landed, by the second
+/// implementation's outcomes.
+fn landed(pair: &Pair, lent: &Lent) -> Vec<bool> {
+    let mut landed = vec![false; pair.first.registers];
+    let (answer, left) = call(replay::replay, lent);
+    if answer.number == 0 {
+        for bytes in landings(&pair.first.recording, left.outcomes.lent(), pair.thread) {
+            landed[bytes].fill(true);
+        }
+    }
+    landed
+}
+
+fn describe(seed: u64, index: u64, pair: &Pair, difference: &str) -> String {
+    let mut text = format!(
+        "isolation of recordings, case {index}, seed {seed}: thread {}, {} bytes, {} differ\n  {difference}",
+        pair.thread,
+        pair.first.recording.len(),
+        pair.differing(),
+    );
+    print_input(&mut text, "first", &pair.first.recording);
+    print_input(&mut text, "second", &pair.second);
+    text
+}
