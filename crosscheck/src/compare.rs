@@ -5,6 +5,7 @@ use crate::random::Random;
 use std::fmt::Write;
 
 pub mod batch;
+pub mod fuzz;
 pub mod in_play;
 #[cfg(feature = "order")]
 pub mod isolation;
@@ -23,6 +24,7 @@ const SHORT: usize = 384;
 
 /// What a run of the comparison is asked for.
 pub struct Plan {
+    pub subject: &'static str,
     /// Random cases per subject, on top of the fixed ones.
     pub cases: u64,
     pub seed: u64,
@@ -31,6 +33,14 @@ pub struct Plan {
 }
 
 impl Plan {
+    /// The command that compares one case alone.
+    fn again(&self, index: u64) -> String {
+        format!(
+            "compare {} {} {} {index}",
+            self.subject, self.cases, self.seed
+        )
+    }
+
     /// The fixed cases, then the random ones. Each has its own stream of random
     /// numbers, so that it can be compared alone.
     fn each<C>(

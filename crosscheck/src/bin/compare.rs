@@ -20,6 +20,7 @@ const SUBJECTS: &[Subject] = &[
     ("isolation", 40_000, compare::isolation::run),
     #[cfg(feature = "replay")]
     ("replay", 175_000, compare::replay::run),
+    ("fuzz", 50_000, compare::fuzz::run),
     // A process each.
     #[cfg(feature = "listing")]
     ("listing", 250, compare::listing::run),
@@ -44,8 +45,9 @@ fn main() -> ExitCode {
         return ExitCode::from(2);
     };
     let mut report = Report::default();
-    for (_, cases, run) in subjects {
+    for (subject, cases, run) in subjects {
         let plan = Plan {
+            subject,
             cases: numbers.first().copied().unwrap_or(*cases),
             seed: numbers.get(1).copied().unwrap_or(7),
             only: numbers.get(2).copied(),

@@ -26,7 +26,7 @@ pub fn run(plan: &Plan, report: &mut Report) {
                 differing.dwords += dwords;
             }
         });
-        report.case(outcome.map_err(|found| describe(plan.seed, index, pair, &found)));
+        report.case(outcome.map_err(|found| describe(plan, index, pair, &found)));
     });
     if plan.only.is_none() {
         let Differing { pairs, dwords } = differing;
@@ -186,10 +186,11 @@ impl<T: Cell> Both<T> {
     }
 }
 
-fn describe(seed: u64, index: u64, pair: &Pair, difference: &str) -> String {
+fn describe(plan: &Plan, index: u64, pair: &Pair, difference: &str) -> String {
     let first = &pair.first.batch;
     let mut text = format!(
-        "isolation case {index}, seed {seed}: {} dwords, {} bytes more, capacity {}, {} differ\n  {difference}",
+        "{}: {} dwords, {} bytes more, capacity {}, {} differ\n  {difference}",
+        plan.again(index),
         first.batch.len(),
         first.tail.len(),
         first.capacity,

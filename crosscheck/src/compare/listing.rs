@@ -20,7 +20,7 @@ pub fn run(plan: &Plan, report: &mut Report) {
     }
     plan.each(&sweep(plan.seed), random_case, |index, input, _| {
         let outcome = compare(&program, input).map(|text| count(&text, &mut numbers, &mut kinds));
-        report.case(outcome.map_err(|found| describe(plan.seed, index, input, &found)));
+        report.case(outcome.map_err(|found| describe(plan, index, input, &found)));
     });
     if plan.only.is_none() {
         numbers.print(report);
@@ -79,9 +79,10 @@ fn count(text: &str, numbers: &mut Tally, kinds: &mut Tally) {
     }
 }
 
-fn describe(seed: u64, index: u64, input: &[u8], difference: &str) -> String {
+fn describe(plan: &Plan, index: u64, input: &[u8], difference: &str) -> String {
     let mut text = format!(
-        "listing case {index}, seed {seed}: {} bytes\n  {difference}",
+        "{}: {} bytes\n  {difference}",
+        plan.again(index),
         input.len()
     );
     super::print_input(&mut text, "input", input);

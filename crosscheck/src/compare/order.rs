@@ -10,14 +10,24 @@ use crate::order::{self, Answer};
 use crate::random::Random;
 
 pub fn run(plan: &Plan, report: &mut Report) {
+    each(plan, report, &sweep(plan.seed), random_case);
+}
+
+/// Every case through both entries, then how often each number was reached.
+pub(super) fn each(
+    plan: &Plan,
+    report: &mut Report,
+    fixed: &[Case],
+    random_case: fn(&mut Random) -> Case,
+) {
     let numbers = || (0..=10).chain(20..=25);
     let mut dwords = Tally::new("order check over dwords", numbers());
     let mut bytes = Tally::new("order check over bytes", numbers())
         .and(17, "of the batch")
         .and(17, "of the run");
-    plan.each(&sweep(plan.seed), random_case, |index, case, random| {
+    plan.each(fixed, random_case, |index, case, random| {
         let outcome = compare(case, random, &mut dwords, &mut bytes);
-        report.case(outcome.map_err(|found| describe(plan.seed, index, case, &found)));
+        report.case(outcome.map_err(|found| describe(plan, index, case, &found)));
     });
     if plan.only.is_none() {
         dwords.print(report);
@@ -199,9 +209,10 @@ struct Expected<T> {
     objects: usize,
 }
 
-fn describe(seed: u64, index: u64, case: &Case, difference: &str) -> String {
+fn describe(plan: &Plan, index: u64, case: &Case, difference: &str) -> String {
     let mut text = format!(
-        "order case {index}, seed {seed}: {} dwords, {} bytes more, capacity {}, {} events, {} bytes more\n  {difference}",
+        "{}: {} dwords, {} bytes more, capacity {}, {} events, {} bytes more\n  {difference}",
+        plan.again(index),
         case.batch.batch.len(),
         case.batch.tail.len(),
         case.batch.capacity,

@@ -8,9 +8,19 @@ use crate::random::Random;
 use crate::replay::{self, Replayed};
 
 pub fn run(plan: &Plan, report: &mut Report) {
+    each(plan, report, &sweep(plan.seed), random_case);
+}
+
+/// Every case, then how often each number and each outcome was reached.
+pub(super) fn each(
+    plan: &Plan,
+    report: &mut Report,
+    fixed: &[Case],
+    random_case: fn(&mut Random) -> Case,
+) {
     let mut numbers = Tally::new("gateway replay", [0].into_iter().chain(11..=16));
     let mut outcomes = Tally::new("outcomes of its events", [0].into_iter().chain(31..=39));
-    plan.each(&sweep(plan.seed), random_case, |index, case, random| {
+    plan.each(fixed, random_case, |index, case, random| {
         let found = compare(case, random);
         let outcome = found.map(|(number, counts)| {
             numbers.count(number.into());
@@ -18,7 +28,7 @@ pub fn run(plan: &Plan, report: &mut Report) {
                 outcomes.add(outcome, count);
             }
         });
-        report.case(outcome.map_err(|found| describe(plan.seed, index, case, &found)));
+        report.case(outcome.map_err(|found| describe(plan, index, case, &found)));
     });
     if plan.only.is_none() {
         numbers.print(report);
@@ -130,9 +140,10 @@ pub(super) fn call(replay: Replay, lent: &Lent) -> (Replayed, Lent) {
     (answer, left)
 }
 
-fn describe(seed: u64, index: u64, case: &Case, difference: &str) -> String {
+fn describe(plan: &Plan, index: u64, case: &Case, difference: &str) -> String {
     let mut text = format!(
-        "replay case {index}, seed {seed}: {} bytes, {} bytes of registers, {} counts, {} outcomes\n  {difference}",
+        "{}: {} bytes, {} bytes of registers, {} counts, {} outcomes\n  {difference}",
+        plan.again(index),
         case.recording.len(),
         case.registers,
         case.counts,

@@ -24,7 +24,7 @@ pub fn run(plan: &Plan, report: &mut Report) {
                 numbers.count(number.into());
             }
         });
-        report.case(outcome.map_err(|found| describe(plan.seed, index, pair, &found)));
+        report.case(outcome.map_err(|found| describe(plan, index, pair, &found)));
     });
     if plan.only.is_none() {
         total.print(report);
@@ -145,9 +145,10 @@ fn landed(pair: &Pair, lent: &Lent) -> Vec<bool> {
     landed
 }
 
-fn describe(seed: u64, index: u64, pair: &Pair, difference: &str) -> String {
+fn describe(plan: &Plan, index: u64, pair: &Pair, difference: &str) -> String {
     let mut text = format!(
-        "isolation of recordings, case {index}, seed {seed}: thread {}, {} bytes, {} differ\n  {difference}",
+        "{}: thread {}, {} bytes, {} differ\n  {difference}",
+        plan.again(index),
         pair.thread,
         pair.first.recording.len(),
         pair.differing(),
