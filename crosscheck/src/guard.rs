@@ -92,6 +92,11 @@ impl<T: Cell> Guarded<T> {
         self.differs_only_in(other, 0..count)
     }
 
+    /// True where nothing was written outside what was lent.
+    pub fn same_guards(&self, other: &Self) -> bool {
+        self.differs_only_in(other, 0..self.length)
+    }
+
     /// True where nothing but a part of the lent cells differs.
     pub fn differs_only_in(&self, other: &Self, part: Range<usize>) -> bool {
         let (from, to) = (self.start + part.start, self.start + part.end);
@@ -115,6 +120,8 @@ mod tests {
             assert_eq!(first.differs_only_before(&other, 3), within);
             let within = (first.start + 1..first.start + 3).contains(&at);
             assert_eq!(first.differs_only_in(&other, 1..3), within);
+            let within = (first.start..first.start + 4).contains(&at);
+            assert_eq!(first.same_guards(&other), within);
         }
         assert_eq!(first.difference(&first.clone()), None);
     }

@@ -114,10 +114,7 @@ fn compare(pair: &Pair, random: &mut Random) -> Result<Numbers, String> {
         )
     })?;
 
-    // The bytes after the last whole dword agree.
-    let mut second: Vec<u8> = pair.second.iter().flat_map(|w| w.to_le_bytes()).collect();
-    second.extend(&pair.first.batch.tail);
-    let lent = Both::new(Lent::bytes(&pair.first, random), &second);
+    let lent = Both::new(Lent::bytes(&pair.first, random), &pair.second_bytes());
     let batch_bytes = lent.alike("batch check over bytes", |lent| {
         ffi::check_batch(lent.batch.lent(), capacity, lent.records.lent_mut())
     })?;
@@ -179,6 +176,12 @@ impl<T: Cell> Both<T> {
             "the second batch changed at",
             second.batch.difference(&self.second.batch),
         );
+        // What both sides write alike outside would not show as a difference.
+        if !first.records.same_guards(&self.first.records)
+            || !first.states.same_guards(&self.first.states)
+        {
+            faults.add("guards", "were written");
+        }
         match faults.0.is_empty() {
             true => Ok(answers.0),
             false => Err(format!("{entry}, first against second:{}", faults.0)),

@@ -1,6 +1,7 @@
 //! Batches to compare on: a fixed sweep along the boundary of every rule, and
 //! random ones, valid, damaged or junk.
 
+use super::bytes;
 use crate::batch::{CURBE, DESCRIPTOR, END, FLUSH, LIMIT, NOOP, OBJECT, RECORD, STATE_FLUSH, VFE};
 use crate::masks;
 use crate::random::Random;
@@ -20,8 +21,7 @@ pub struct Case {
 
 impl Case {
     pub fn bytes(&self) -> Vec<u8> {
-        let words = self.batch.iter().flat_map(|word| word.to_le_bytes());
-        words.chain(self.tail.iter().copied()).collect()
+        [bytes(&self.batch), self.tail.clone()].concat()
     }
 
     pub fn record_bytes(&self) -> usize {

@@ -1,7 +1,7 @@
 //! Junk and near-valid inputs: the bytes of other cases, changed without regard to
 //! what they mean, in buffers of any length.
 
-use super::{batch, order, replay};
+use super::{batch, dwords, order, replay};
 use crate::batch::{END, LIMIT, OBJECT, VFE};
 use crate::random::Random;
 
@@ -80,13 +80,6 @@ fn junk_batch(random: &mut Random) -> batch::Case {
 fn repeated(dwords: &[u32], length: usize) -> Vec<u8> {
     let bytes = dwords.iter().cycle().flat_map(|dword| dword.to_le_bytes());
     bytes.take(length).collect()
-}
-
-/// Whole dwords and what is left.
-fn dwords(bytes: &[u8]) -> (Vec<u32>, Vec<u8>) {
-    let (dwords, tail) = bytes.as_chunks::<4>();
-    let dwords = dwords.iter().map(|&dword| u32::from_le_bytes(dword));
-    (dwords.collect(), tail.to_vec())
 }
 
 fn any_capacity(random: &mut Random, capacity: u32) -> u32 {

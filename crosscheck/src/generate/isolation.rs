@@ -3,6 +3,7 @@
 
 use super::batch::{plausible, Command};
 use super::order::{self, Case, Object, Scene, Vfe};
+use super::{bytes, dwords};
 use crate::batch::{passed_inline_data, CURBE, END, FLUSH, LIMIT, NOOP, OBJECT, RECORD, VFE};
 use crate::random::Random;
 
@@ -15,16 +16,14 @@ pub struct Pair {
 }
 
 impl Pair {
-    /// Draws the inline data anew by `word`, from what stands there.
-    fn new(first: Case, mut word: impl FnMut(u32) -> u32) -> Self {
-        let mut second = first.batch.batch.clone();
-        for at in passed_inline_data(&second, first.batch.capacity)
-            .into_iter()
-            .flatten()
-        {
-            second[at] = word(second[at]);
-        }
+    fn new(first: Case, word: impl FnMut(u32) -> u32) -> Self {
+        let second = redrawn(&first.batch.batch, first.batch.capacity, word);
         Pair { first, second }
+    }
+
+    /// The second batch for the byte entries; the bytes after the last whole dword agree.
+    pub fn second_bytes(&self) -> Vec<u8> {
+        [bytes(&self.second), self.first.batch.tail.clone()].concat()
     }
 
     /// Dwords in which the two differ.
@@ -32,6 +31,22 @@ impl Pair {
         let both = self.first.batch.batch.iter().zip(&self.second);
         both.filter(|(first, second)| first != second).count()
     }
+}
+
+/// A batch with its passed inline data drawn anew by `word`, from what stands there.
+fn redrawn(batch: &[u32], capacity: u32, mut word: impl FnMut(u32) -> u32) -> Vec<u32> {
+    let mut second = batch.to_vec();
+    for at in passed_inline_data(batch, capacity).into_iter().flatten() {
+        second[at] = word(second[at]);
+    }
+    second
+}
+
+/// The other input of a pair for the listing program: a batch as bytes.
+pub fn other_input(random: &mut Random, input: &[u8], capacity: u32) -> Vec<u8> {
+    let (batch, tail) = dwords(input);
+    let second = redrawn(&batch, capacity, |word| any_other(random, word));
+    [bytes(&second), tail].concat()
 }
 
 /// One random pair that does differ.

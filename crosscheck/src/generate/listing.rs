@@ -2,6 +2,7 @@
 //! and around its limit of length.
 
 use super::batch::{self, flat, Command};
+use super::{bytes, isolation};
 use crate::batch::{END, NOOP};
 use crate::listing::{CAPACITY, MOST};
 use crate::random::Random;
@@ -29,14 +30,10 @@ pub fn sweep(seed: u64) -> Vec<Vec<u8>> {
     // The batch check's own sweep, thinned out.
     let batches = batch::sweep(seed).into_iter().step_by(299);
     inputs.extend(batches.map(|case| case.bytes()));
+    // Inline data, then each way in which reading stops.
+    let pairs = isolation::sweep(seed).into_iter().step_by(21);
+    inputs.extend(pairs.map(|pair| pair.first.batch.bytes()));
     inputs
-}
-
-fn bytes(dwords: &[u32]) -> Vec<u8> {
-    dwords
-        .iter()
-        .flat_map(|dword| dword.to_le_bytes())
-        .collect()
 }
 
 /// Lengths around 0 and the limit; END first, in the last whole dword or missing.

@@ -1,7 +1,7 @@
 //! Batches and runs to compare the order check on: a fixed sweep along every
 //! rule, and random runs that follow the scoreboard and then break one rule.
 
-use super::batch;
+use super::{batch, bytes};
 use crate::batch::{LIMIT, RECORD};
 use crate::random::Random;
 
@@ -23,8 +23,7 @@ pub struct Case {
 
 impl Case {
     pub fn run_bytes(&self) -> Vec<u8> {
-        let words = self.run.iter().flat_map(|word| word.to_le_bytes());
-        words.chain(self.run_tail.iter().copied()).collect()
+        [bytes(&self.run), self.run_tail.clone()].concat()
     }
 
     /// Exactly the room that the scene needs.

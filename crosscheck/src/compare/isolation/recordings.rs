@@ -6,9 +6,8 @@ use crate::compare::replay::{call, Lent};
 use crate::compare::{print_input, Faults, Plan, Report, Tally};
 use crate::ffi;
 use crate::generate::isolation::recordings::{random_case, sweep, Pair};
-use crate::guard::Guarded;
 use crate::random::Random;
-use crate::replay::{self, landings};
+use crate::replay::{self, landings, Replayed};
 
 pub fn run(plan: &Plan, report: &mut Report) {
     let mut numbers = Tally::new(
@@ -64,60 +63,89 @@ impl Differing {
     }
 }
 
+/// What one recording is lent, what the library answers, and what it leaves.
+struct Side {
+    lent: Lent,
+    answer: Replayed,
+    left: Lent,
+}
+
+impl Side {
+    fn run(lent: Lent) -> Self {
+        let (answer, left) = call(ffi::replay, &lent);
+        Side { lent, answer, left }
+    }
+}
+
 /// Both recordings through the library; gives the common number.
 fn compare(pair: &Pair, random: &mut Random) -> Result<(u32, Differing), String> {
-    let own = pair.own_registers();
-    let first = Lent::new(&pair.first, random);
-    let mut second = first.clone();
-    second.recording.lent_mut().copy_from_slice(&pair.second);
-    change(random, &mut second.registers.lent_mut()[own.clone()]);
-
-    let (one, by_first) = call(ffi::replay, &first);
-    let (other, by_second) = call(ffi::replay, &second);
+    let lent = Lent::new(&pair.first, random);
+    let mut other = lent.clone();
+    other.recording.lent_mut().copy_from_slice(&pair.second);
+    change(
+        random,
+        &mut other.registers.lent_mut()[pair.own_registers()],
+    );
+    let (first, second) = (Side::run(lent), Side::run(other));
     let mut faults = Faults::default();
-    if one != other {
-        faults.add("answers", &format!("{one:?} against {other:?}"));
+    outside(pair, &first, &second, &mut faults);
+    let differing = inside(pair, &first, &second, &mut faults);
+    match faults.0.is_empty() {
+        true => Ok((first.answer.number, differing)),
+        false => Err(format!("first against second:{}", faults.0)),
     }
-    faults.difference("counts", by_first.counts.difference(&by_second.counts));
-    faults.difference(
-        "outcomes",
-        by_first.outcomes.difference(&by_second.outcomes),
-    );
-    let (registers, others) = (&by_first.registers, &by_second.registers);
-    if !registers.differs_only_in(others, own.clone()) {
-        faults.difference("registers of others", registers.difference(others));
-    }
-    faults.difference(
-        "the first recording changed at",
-        by_first.recording.difference(&first.recording),
-    );
-    faults.difference(
-        "the second recording changed at",
-        by_second.recording.difference(&second.recording),
-    );
+}
 
-    let landed = landed(pair, &first);
+/// All but the thread's own registers ends the same.
+fn outside(pair: &Pair, first: &Side, second: &Side, faults: &mut Faults) {
+    if first.answer != second.answer {
+        let (first, second) = (first.answer, second.answer);
+        faults.add("answers", &format!("{first:?} against {second:?}"));
+    }
+    let (left, other) = (&first.left, &second.left);
+    faults.difference("counts", left.counts.difference(&other.counts));
+    faults.difference("outcomes", left.outcomes.difference(&other.outcomes));
+    let own = pair.own_registers();
+    if !left.registers.differs_only_in(&other.registers, own) {
+        faults.add("registers", "of another thread differ");
+    }
+    for side in [first, second] {
+        faults.difference(
+            "the recording changed at",
+            side.left.recording.difference(&side.lent.recording),
+        );
+    }
+    // What both sides write alike outside would not show as a difference.
+    if !left.registers.same_guards(&first.lent.registers)
+        || !left.counts.same_guards(&first.lent.counts)
+        || !left.outcomes.same_guards(&first.lent.outcomes)
+    {
+        faults.add("guards", "were written");
+    }
+}
+
+/// A byte of the thread's registers ends different only where it began so or a
+/// forward landed on it.
+fn inside(pair: &Pair, first: &Side, second: &Side, faults: &mut Faults) -> Differing {
+    let landed = landed(pair, &first.lent);
     let mut differing = Differing {
         data: pair.differing(),
         ..Differing::default()
     };
-    for at in own {
+    for at in pair.own_registers() {
         let differs =
-            |first: &Guarded<u8>, second: &Guarded<u8>| first.lent()[at] != second.lent()[at];
-        if !differs(registers, others) {
+            |first: &Lent, second: &Lent| first.registers.lent()[at] != second.registers.lent()[at];
+        if !differs(&first.left, &second.left) {
             continue;
         }
-        let began = differs(&first.registers, &second.registers);
+        let began = differs(&first.lent, &second.lent);
         differing.kept += usize::from(began);
         differing.landed += usize::from(!began);
         if !began && !landed[at] {
             faults.add("register byte", &format!("{at} ends different"));
         }
     }
-    match faults.0.is_empty() {
-        true => Ok((one.number, differing)),
-        false => Err(format!("first against second:{}", faults.0)),
-    }
+    differing
 }
 
 /// Changes all of the thread's registers, some bytes of them, or none.

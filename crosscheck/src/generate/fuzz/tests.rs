@@ -1,7 +1,7 @@
 use super::*;
 use crate::{batch as checked, order as run, replay as replayed};
 
-const CASES: u64 = 20_000;
+const CASES: u64 = 6_000;
 
 /// How often each number is answered to these cases.
 fn reached<C>(make: fn(&mut Random) -> C, number: fn(&C) -> usize) -> [usize; 40] {
@@ -20,7 +20,7 @@ fn every_number_is_met() {
         checked::check_bytes(&case.bytes(), case.capacity, &mut records).number as usize
     });
     for number in [0].into_iter().chain(2..=10).chain([17]) {
-        assert!(batches[number] > 30, "{number}: {}", batches[number]);
+        assert!(batches[number] > 8, "{number}: {}", batches[number]);
     }
     let orders = reached(order, |case| {
         let mut records = vec![0; case.batch.record_bytes()];
@@ -30,7 +30,7 @@ fn every_number_is_met() {
         run::check_bytes(&batch, capacity, &run, &mut records, &mut states).number as usize
     });
     for number in [0].into_iter().chain(2..=10).chain([17]).chain(20..=25) {
-        assert!(orders[number] > 30, "{number}: {}", orders[number]);
+        assert!(orders[number] > 8, "{number}: {}", orders[number]);
     }
     let recordings = reached(recording, |case| {
         let mut registers = vec![0; case.registers];
@@ -40,6 +40,6 @@ fn every_number_is_met() {
             as usize
     });
     for number in [0].into_iter().chain(11..=16) {
-        assert!(recordings[number] > 30, "{number}: {}", recordings[number]);
+        assert!(recordings[number] > 8, "{number}: {}", recordings[number]);
     }
 }

@@ -1,4 +1,5 @@
 use super::*;
+use crate::generate::isolation::other_input;
 use crate::listing::{listing, NAMES};
 
 fn text(input: &[u8]) -> String {
@@ -30,4 +31,18 @@ fn random_cases_are_mixed() {
     assert!(with("accepted") > 300, "{}", with("accepted"));
     assert!(with("refused 1 ") > 20, "{}", with("refused 1 "));
     assert!(with("refused 17 ") > 100, "{}", with("refused 17 "));
+}
+
+/// Inputs that differ only in inline data passed get the same text.
+#[test]
+fn inline_data_is_not_listed() {
+    let mut differing = 0;
+    for index in 0..1000 {
+        let random = &mut Random::for_case(3, index);
+        let input = random_case(random);
+        let other = other_input(random, &input, CAPACITY);
+        differing += usize::from(other != input);
+        assert_eq!(text(&other), text(&input));
+    }
+    assert!(differing > 100, "{differing}");
 }
