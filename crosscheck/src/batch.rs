@@ -5,6 +5,7 @@
 //! accepted. Inline data is stepped over, and nothing after END is read.
 
 use crate::masks::{self, Masks};
+use std::ops::Range;
 
 /// The longest batch, in dwords (rule 1).
 pub const LIMIT: usize = 16_384;
@@ -156,6 +157,24 @@ fn judge<W: Word>(batch: &[W], capacity: u32) -> Result<Accepted, Refusal> {
     if batch.len() > LIMIT {
         return refuse(1, 0);
     }
+    read(batch, capacity, |_| {})
+}
+
+/// The inline data of every OBJECT passed, whatever rules 1, 10 and 17 say.
+pub fn passed_inline_data(batch: &[u32], capacity: u32) -> Vec<Range<usize>> {
+    let mut found = Vec::new();
+    // A fault stops the reading, as END and the slice's end do.
+    let _ = read(batch, capacity, |inline| found.push(inline));
+    found
+}
+
+/// Rules 2 to 9, command by command. Tells `passed` where the inline data of each
+/// OBJECT passed stands.
+fn read<W: Word>(
+    batch: &[W],
+    capacity: u32,
+    mut passed: impl FnMut(Range<usize>),
+) -> Result<Accepted, Refusal> {
     let mut state = State::default();
     let mut rest = batch;
     let mut commands = 0;
@@ -167,7 +186,11 @@ fn judge<W: Word>(batch: &[W], capacity: u32) -> Result<Accepted, Refusal> {
         let header = first.get();
         commands += 1;
         rest = match header >> 16 {
-            OBJECT => object(rest, header, place, &mut state)?,
+            OBJECT => {
+                let next = object(rest, header, place, &mut state)?;
+                passed(place + OBJECT_FIXED..batch.len() - next.len());
+                next
+            }
             VFE => vfe(rest, header, place, &mut state, capacity)?,
             CURBE => curbe(rest, header, place, &mut state)?,
             DESCRIPTOR => descriptor(rest, header, place, &mut state)?,

@@ -5,7 +5,12 @@ use crate::random::Random;
 use std::fmt::Write;
 
 pub mod batch;
+pub mod fuzz;
 pub mod in_play;
+#[cfg(feature = "order")]
+pub mod isolation;
+#[cfg(feature = "listing")]
+pub mod listing;
 #[cfg(feature = "order")]
 pub mod order;
 #[cfg(feature = "replay")]
@@ -19,6 +24,7 @@ const SHORT: usize = 384;
 
 /// What a run of the comparison is asked for.
 pub struct Plan {
+    pub subject: &'static str,
     /// Random cases per subject, on top of the fixed ones.
     pub cases: u64,
     pub seed: u64,
@@ -27,6 +33,14 @@ pub struct Plan {
 }
 
 impl Plan {
+    /// The command that compares one case alone.
+    fn again(&self, index: u64) -> String {
+        format!(
+            "compare {} {} {} {index}",
+            self.subject, self.cases, self.seed
+        )
+    }
+
     /// The fixed cases, then the random ones. Each has its own stream of random
     /// numbers, so that it can be compared alone.
     fn each<C>(
@@ -98,7 +112,7 @@ impl Tally {
     }
 
     /// One more row to be reached.
-    #[cfg(feature = "order")]
+    #[cfg(any(feature = "listing", feature = "order"))]
     fn and(mut self, number: u64, of: &'static str) -> Self {
         *self.row(number, of) = 0;
         self

@@ -1,6 +1,7 @@
 //! Lent buffers between two guards, so that a write outside what was lent shows.
 
 use crate::random::Random;
+use std::ops::Range;
 
 /// What a lent buffer may hold: bytes or dwords.
 pub trait Cell: Copy + PartialEq + From<u8> + std::fmt::LowerHex {
@@ -88,9 +89,18 @@ impl<T: Cell> Guarded<T> {
 
     /// True where nothing but the first `count` lent cells differs.
     pub fn differs_only_before(&self, other: &Self, count: usize) -> bool {
-        let written = self.start + count;
-        self.cells[..self.start] == other.cells[..self.start]
-            && self.cells[written..] == other.cells[written..]
+        self.differs_only_in(other, 0..count)
+    }
+
+    /// True where nothing was written outside what was lent.
+    pub fn same_guards(&self, other: &Self) -> bool {
+        self.differs_only_in(other, 0..self.length)
+    }
+
+    /// True where nothing but a part of the lent cells differs.
+    pub fn differs_only_in(&self, other: &Self, part: Range<usize>) -> bool {
+        let (from, to) = (self.start + part.start, self.start + part.end);
+        self.cells[..from] == other.cells[..from] && self.cells[to..] == other.cells[to..]
     }
 }
 
@@ -108,6 +118,10 @@ mod tests {
             assert!(first.difference(&other).is_some());
             let within = (first.start..first.start + 3).contains(&at);
             assert_eq!(first.differs_only_before(&other, 3), within);
+            let within = (first.start + 1..first.start + 3).contains(&at);
+            assert_eq!(first.differs_only_in(&other, 1..3), within);
+            let within = (first.start..first.start + 4).contains(&at);
+            assert_eq!(first.same_guards(&other), within);
         }
         assert_eq!(first.difference(&first.clone()), None);
     }

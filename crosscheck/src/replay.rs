@@ -16,6 +16,13 @@ pub const REGISTER: usize = 32;
 /// The group byte of a thread that belongs to none.
 pub const NO_GROUP: u8 = 255;
 
+/// The end-of-thread flag in byte 2.
+const END_OF_THREAD: u8 = 8;
+
+mod landing;
+
+pub use landing::landings;
+
 /// A thread's gateway; all 0 where it is closed. The size is the size code.
 #[derive(Clone, Copy, Debug, Default, PartialEq, Eq)]
 pub struct Gateway {
@@ -71,22 +78,17 @@ pub fn replay(
     desk.end
 }
 
-/// A recording that passed rules 11 to 16.
-struct Tape<'a> {
-    bypass: bool,
-    /// The group byte of each thread; none past the thread count.
-    groups: [u8; 16],
-    events: &'a [[u8; EVENT]],
+/// A recording that passed rules 11 to 14, so that it has events.
+pub(crate) struct Frame<'a> {
+    pub bypass: bool,
+    /// A byte per thread.
+    pub groups: &'a [u8],
+    pub events: &'a [[u8; EVENT]],
 }
 
-impl<'a> Tape<'a> {
-    /// Rules 11 to 16 in order, over the recording and the lent lengths.
-    fn read(
-        recording: &'a [u8],
-        registers: usize,
-        counts: usize,
-        outcomes: usize,
-    ) -> Result<Self, u32> {
+impl<'a> Frame<'a> {
+    /// Rules 11 to 14 in order.
+    pub fn read(recording: &'a [u8]) -> Result<Self, u32> {
         let Some((&header, rest)) = recording.split_first_chunk::<HEADER>() else {
             return Err(11);
         };
@@ -105,22 +107,52 @@ impl<'a> Tape<'a> {
         if rest.len() != threads + EVENT * count {
             return Err(14);
         }
-        let (own_groups, events) = rest.split_at(threads);
+        let (groups, events) = rest.split_at(threads);
+        Ok(Frame {
+            bypass: bypass == 1,
+            groups,
+            events: events.as_chunks().0,
+        })
+    }
+}
+
+/// A recording that passed rules 11 to 16.
+struct Tape<'a> {
+    bypass: bool,
+    /// The group byte of each thread; none past the thread count.
+    groups: [u8; 16],
+    events: &'a [[u8; EVENT]],
+}
+
+impl<'a> Tape<'a> {
+    /// Rules 11 to 16 in order, over the recording and the lent lengths.
+    fn read(
+        recording: &'a [u8],
+        registers: usize,
+        counts: usize,
+        outcomes: usize,
+    ) -> Result<Self, u32> {
+        let Frame {
+            bypass,
+            groups: own_groups,
+            events,
+        } = Frame::read(recording)?;
         if own_groups
             .iter()
             .any(|&group| group > 15 && group != NO_GROUP)
         {
             return Err(15);
         }
-        if registers != REGISTERS * threads || counts != 2 * threads || outcomes < count {
+        let threads = own_groups.len();
+        if registers != REGISTERS * threads || counts != 2 * threads || outcomes < events.len() {
             return Err(16);
         }
         let mut groups = [NO_GROUP; 16];
         groups[..threads].copy_from_slice(own_groups);
         Ok(Tape {
-            bypass: bypass == 1,
+            bypass,
             groups,
-            events: events.as_chunks().0,
+            events,
         })
     }
 
@@ -153,7 +185,7 @@ impl Desk<'_> {
         let [kind, sender, flags, ack_register, ..] = *event;
         let sender = usize::from(sender);
         let ack = flags & 1 == 1;
-        let end_of_thread = flags & 8 != 0;
+        let end_of_thread = flags & END_OF_THREAD != 0;
         let zeros = event[10..16].iter().fold(0, |joined, byte| joined | byte);
         if sender >= self.registers.len() || flags > 15 || ack && end_of_thread || zeros != 0 {
             return 31;

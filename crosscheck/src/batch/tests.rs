@@ -351,3 +351,22 @@ fn first_command_decides_then_table_order() {
     // Dwords after END are not read.
     assert_eq!(answer(&[END, u32::MAX, 1]), (0, 0));
 }
+
+#[test]
+fn inline_data_of_passed_objects() {
+    let object = &[0x7100_0006, 0, 0, 0, 0, 0, END, END];
+    let bad = &[0x7100_0005, 0x40, 0, 0, 0, 0, END];
+    let before = sequence(&[A_VFE, A_LOAD, object, AN_OBJECT, object]);
+    let passed = [18..20, 26..26, 32..34];
+    // END, a fault or the slice's end: what stands after it is not passed.
+    for after in [&[THE_END, object][..], &[bad, object, THE_END], &[]] {
+        let batch = [before.clone(), sequence(after)].concat();
+        assert_eq!(passed_inline_data(&batch, 6), passed);
+        assert_eq!(passed_inline_data(&batch, 5), []);
+    }
+    // Rule 1 has no say.
+    let mut long = vec![NOOP; LIMIT];
+    long.extend(before);
+    let passed = passed.map(|inline| inline.start + LIMIT..inline.end + LIMIT);
+    assert_eq!(passed_inline_data(&long, 6), passed);
+}

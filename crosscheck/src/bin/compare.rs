@@ -1,51 +1,57 @@
 //! Compares the library with the second implementation on seeded cases.
 //!
-//! `compare [subject] [cases [seed [index]]]`: batch, in_play, order or replay alone;
-//! random cases per subject on top of the fixed ones, the seed, and one case to
-//! compare alone.
+//! `compare [subject] [cases [seed [index]]]`: one subject alone, as far as the
+//! features reach; random cases per subject on top of the fixed ones, the seed, and
+//! one case to compare alone.
 
 use crosscheck::compare::{self, Plan, Report};
 use std::process::ExitCode;
 
-/// What compares one subject.
-type Subject = (&'static str, fn(&Plan, &mut Report));
+/// A subject's name, its random cases where none are asked for, and what compares it.
+type Subject = (&'static str, u64, fn(&Plan, &mut Report));
 
 /// As far as the features reach.
 const SUBJECTS: &[Subject] = &[
-    ("batch", compare::batch::run),
-    ("in_play", compare::in_play::run),
+    ("batch", 175_000, compare::batch::run),
+    ("in_play", 0, compare::in_play::run),
     #[cfg(feature = "order")]
-    ("order", compare::order::run),
+    ("order", 175_000, compare::order::run),
+    #[cfg(feature = "order")]
+    ("isolation", 40_000, compare::isolation::run),
     #[cfg(feature = "replay")]
-    ("replay", compare::replay::run),
+    ("replay", 175_000, compare::replay::run),
+    ("fuzz", 50_000, compare::fuzz::run),
+    // A process each.
+    #[cfg(feature = "listing")]
+    ("listing", 250, compare::listing::run),
 ];
 
 fn main() -> ExitCode {
     let mut arguments: Vec<String> = std::env::args().skip(1).collect();
     let mut subjects = SUBJECTS;
     if let Some(first) = arguments.first() {
-        if let Some(at) = SUBJECTS.iter().position(|(name, _)| name == first) {
+        if let Some(at) = SUBJECTS.iter().position(|(name, ..)| name == first) {
             subjects = &SUBJECTS[at..=at];
             arguments.remove(0);
         }
     }
     let numbers: Result<Vec<u64>, _> = arguments.iter().map(|number| number.parse()).collect();
-    let plan = match numbers.as_deref() {
-        Ok([]) => plan(None, None, None),
-        Ok([cases]) => plan(Some(*cases), None, None),
-        Ok([cases, seed]) => plan(Some(*cases), Some(*seed), None),
-        Ok([cases, seed, index]) => plan(Some(*cases), Some(*seed), Some(*index)),
-        _ => {
-            let names: Vec<&str> = SUBJECTS.iter().map(|(name, _)| *name).collect();
-            eprintln!(
-                "usage: compare [{}] [cases [seed [index]]]",
-                names.join("|")
-            );
-            return ExitCode::from(2);
-        }
+    let Ok(numbers @ ([] | [_] | [_, _] | [_, _, _])) = numbers.as_deref() else {
+        let names: Vec<&str> = SUBJECTS.iter().map(|(name, ..)| *name).collect();
+        eprintln!(
+            "usage: compare [{}] [cases [seed [index]]]",
+            names.join("|")
+        );
+        return ExitCode::from(2);
     };
     let mut report = Report::default();
-    for (_, run) in subjects {
+    for (subject, cases, run) in subjects {
+        let plan = Plan {
+            subject,
+            cases: numbers.first().copied().unwrap_or(*cases),
+            seed: numbers.get(1).copied().unwrap_or(7),
+            only: numbers.get(2).copied(),
+        };
         run(&plan, &mut report);
     }
     println!("{} passed, {} failed", report.passed, report.failed);
@@ -53,13 +59,5 @@ fn main() -> ExitCode {
     match (report.passed, report.failed) {
         (1.., 0) => ExitCode::SUCCESS,
         _ => ExitCode::FAILURE,
-    }
-}
-
-fn plan(cases: Option<u64>, seed: Option<u64>, only: Option<u64>) -> Plan {
-    Plan {
-        cases: cases.unwrap_or(175_000),
-        seed: seed.unwrap_or(7),
-        only,
     }
 }

@@ -8,16 +8,28 @@ use crate::guard::{Cell, Guarded};
 use crate::random::Random;
 
 pub fn run(plan: &Plan, report: &mut Report) {
+    each(plan, report, &sweep(plan.seed), random_case);
+    if plan.only.is_none() {
+        report.case(nothing());
+    }
+}
+
+/// Every case through both entries, then how often each number was reached.
+pub(super) fn each(
+    plan: &Plan,
+    report: &mut Report,
+    fixed: &[Case],
+    random_case: fn(&mut Random) -> Case,
+) {
     let mut dwords = Tally::new("batch check over dwords", 0..=10);
     let mut bytes = Tally::new("batch check over bytes", (0..=10).chain([17]));
-    plan.each(&sweep(plan.seed), random_case, |index, case, random| {
+    plan.each(fixed, random_case, |index, case, random| {
         let outcome = compare(case, random, &mut dwords, &mut bytes);
-        report.case(outcome.map_err(|found| describe(plan.seed, index, case, &found)));
+        report.case(outcome.map_err(|found| describe(plan, index, case, &found)));
     });
     if plan.only.is_none() {
         dwords.print(report);
         bytes.print(report);
-        report.case(nothing());
     }
 }
 
@@ -149,9 +161,10 @@ impl<T: Cell> Side<T> {
     }
 }
 
-fn describe(seed: u64, index: u64, case: &Case, difference: &str) -> String {
+fn describe(plan: &Plan, index: u64, case: &Case, difference: &str) -> String {
     let mut text = format!(
-        "batch case {index}, seed {seed}: {} dwords, {} bytes more, capacity {}\n  {difference}",
+        "{}: {} dwords, {} bytes more, capacity {}\n  {difference}",
+        plan.again(index),
         case.batch.len(),
         case.tail.len(),
         case.capacity,

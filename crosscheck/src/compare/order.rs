@@ -10,14 +10,24 @@ use crate::order::{self, Answer};
 use crate::random::Random;
 
 pub fn run(plan: &Plan, report: &mut Report) {
+    each(plan, report, &sweep(plan.seed), random_case);
+}
+
+/// Every case through both entries, then how often each number was reached.
+pub(super) fn each(
+    plan: &Plan,
+    report: &mut Report,
+    fixed: &[Case],
+    random_case: fn(&mut Random) -> Case,
+) {
     let numbers = || (0..=10).chain(20..=25);
     let mut dwords = Tally::new("order check over dwords", numbers());
     let mut bytes = Tally::new("order check over bytes", numbers())
         .and(17, "of the batch")
         .and(17, "of the run");
-    plan.each(&sweep(plan.seed), random_case, |index, case, random| {
+    plan.each(fixed, random_case, |index, case, random| {
         let outcome = compare(case, random, &mut dwords, &mut bytes);
-        report.case(outcome.map_err(|found| describe(plan.seed, index, case, &found)));
+        report.case(outcome.map_err(|found| describe(plan, index, case, &found)));
     });
     if plan.only.is_none() {
         dwords.print(report);
@@ -31,15 +41,7 @@ fn compare(
     dwords: &mut Tally,
     bytes: &mut Tally,
 ) -> Result<(), String> {
-    // Who reads past the run meets an event that might do.
-    let next = random.below(2 * case.states + 1) as u32;
-
-    let lent = Lent {
-        batch: Guarded::new(random, &case.batch.batch).followed_by(&[END]),
-        run: Guarded::new(random, &case.run).followed_by(&[next]),
-        records: Guarded::filled(random, case.batch.records),
-        states: Guarded::filled(random, case.states),
-    };
+    let lent = Lent::dwords(case, random);
     let entry = Entry {
         name: "dwords",
         library: ffi::check_order_dwords,
@@ -50,12 +52,7 @@ fn compare(
     let over_dwords = entry.compare(&lent, case.batch.capacity)?;
     dwords.count(over_dwords.number);
 
-    let lent = Lent {
-        batch: Guarded::new(random, &case.batch.bytes()).followed_by(&END.to_le_bytes()),
-        run: Guarded::new(random, &case.run_bytes()).followed_by(&next.to_le_bytes()),
-        records: Guarded::filled(random, case.batch.record_bytes()),
-        states: Guarded::filled(random, case.states),
-    };
+    let lent = Lent::bytes(case, random);
     let entry = Entry {
         name: "bytes",
         library: ffi::check_order,
@@ -82,11 +79,40 @@ fn compare(
 
 /// All that is lent for one call.
 #[derive(Clone)]
-struct Lent<T> {
-    batch: Guarded<T>,
-    run: Guarded<T>,
-    records: Guarded<T>,
-    states: Guarded<u8>,
+pub(super) struct Lent<T> {
+    pub batch: Guarded<T>,
+    pub run: Guarded<T>,
+    pub records: Guarded<T>,
+    pub states: Guarded<u8>,
+}
+
+impl Lent<u32> {
+    pub fn dwords(case: &Case, random: &mut Random) -> Self {
+        let next = next_event(case, random);
+        Lent {
+            batch: Guarded::new(random, &case.batch.batch).followed_by(&[END]),
+            run: Guarded::new(random, &case.run).followed_by(&[next]),
+            records: Guarded::filled(random, case.batch.records),
+            states: Guarded::filled(random, case.states),
+        }
+    }
+}
+
+impl Lent<u8> {
+    pub fn bytes(case: &Case, random: &mut Random) -> Self {
+        let next = next_event(case, random).to_le_bytes();
+        Lent {
+            batch: Guarded::new(random, &case.batch.bytes()).followed_by(&END.to_le_bytes()),
+            run: Guarded::new(random, &case.run_bytes()).followed_by(&next),
+            records: Guarded::filled(random, case.batch.record_bytes()),
+            states: Guarded::filled(random, case.states),
+        }
+    }
+}
+
+/// Who reads past the run meets an event that might do.
+fn next_event(case: &Case, random: &mut Random) -> u32 {
+    random.below(2 * case.states + 1) as u32
 }
 
 type Check<T> = fn(&[T], u32, &[T], &mut [T], &mut [u8]) -> Answer;
@@ -183,9 +209,10 @@ struct Expected<T> {
     objects: usize,
 }
 
-fn describe(seed: u64, index: u64, case: &Case, difference: &str) -> String {
+fn describe(plan: &Plan, index: u64, case: &Case, difference: &str) -> String {
     let mut text = format!(
-        "order case {index}, seed {seed}: {} dwords, {} bytes more, capacity {}, {} events, {} bytes more\n  {difference}",
+        "{}: {} dwords, {} bytes more, capacity {}, {} events, {} bytes more\n  {difference}",
+        plan.again(index),
         case.batch.batch.len(),
         case.batch.tail.len(),
         case.batch.capacity,

@@ -8,9 +8,19 @@ use crate::random::Random;
 use crate::replay::{self, Replayed};
 
 pub fn run(plan: &Plan, report: &mut Report) {
+    each(plan, report, &sweep(plan.seed), random_case);
+}
+
+/// Every case, then how often each number and each outcome was reached.
+pub(super) fn each(
+    plan: &Plan,
+    report: &mut Report,
+    fixed: &[Case],
+    random_case: fn(&mut Random) -> Case,
+) {
     let mut numbers = Tally::new("gateway replay", [0].into_iter().chain(11..=16));
     let mut outcomes = Tally::new("outcomes of its events", [0].into_iter().chain(31..=39));
-    plan.each(&sweep(plan.seed), random_case, |index, case, random| {
+    plan.each(fixed, random_case, |index, case, random| {
         let found = compare(case, random);
         let outcome = found.map(|(number, counts)| {
             numbers.count(number.into());
@@ -18,7 +28,7 @@ pub fn run(plan: &Plan, report: &mut Report) {
                 outcomes.add(outcome, count);
             }
         });
-        report.case(outcome.map_err(|found| describe(plan.seed, index, case, &found)));
+        report.case(outcome.map_err(|found| describe(plan, index, case, &found)));
     });
     if plan.only.is_none() {
         numbers.print(report);
@@ -28,11 +38,23 @@ pub fn run(plan: &Plan, report: &mut Report) {
 
 /// All that is lent for one call.
 #[derive(Clone)]
-struct Lent {
-    recording: Guarded<u8>,
-    registers: Guarded<u8>,
-    counts: Guarded<u32>,
-    outcomes: Guarded<u8>,
+pub(super) struct Lent {
+    pub recording: Guarded<u8>,
+    pub registers: Guarded<u8>,
+    pub counts: Guarded<u32>,
+    pub outcomes: Guarded<u8>,
+}
+
+impl Lent {
+    /// No buffer starts at zeros, so that what is not written shows.
+    pub fn new(case: &Case, random: &mut Random) -> Self {
+        Lent {
+            recording: Guarded::new(random, &case.recording),
+            registers: Guarded::filled(random, case.registers),
+            counts: Guarded::filled(random, case.counts),
+            outcomes: Guarded::filled(random, case.outcomes),
+        }
+    }
 }
 
 /// How often each outcome occurs.
@@ -41,13 +63,7 @@ type Outcomes = [usize; 256];
 /// Both implementations over copies of the same buffers; gives the common number
 /// and the outcomes of the events.
 fn compare(case: &Case, random: &mut Random) -> Result<(u32, Outcomes), String> {
-    // No buffer starts at zeros, so that what is not written shows.
-    let lent = Lent {
-        recording: Guarded::new(random, &case.recording),
-        registers: Guarded::filled(random, case.registers),
-        counts: Guarded::filled(random, case.counts),
-        outcomes: Guarded::filled(random, case.outcomes),
-    };
+    let lent = Lent::new(case, random);
     let (library, by_library) = call(ffi::replay, &lent);
     let (second, by_second) = call(replay::replay, &lent);
     let mut faults = Faults::default();
@@ -111,9 +127,9 @@ fn compare(case: &Case, random: &mut Random) -> Result<(u32, Outcomes), String> 
     ))
 }
 
-type Replay = fn(&[u8], &mut [u8], &mut [u32], &mut [u8]) -> Replayed;
+pub(super) type Replay = fn(&[u8], &mut [u8], &mut [u32], &mut [u8]) -> Replayed;
 
-fn call(replay: Replay, lent: &Lent) -> (Replayed, Lent) {
+pub(super) fn call(replay: Replay, lent: &Lent) -> (Replayed, Lent) {
     let mut left = lent.clone();
     let answer = replay(
         left.recording.lent(),
@@ -124,9 +140,10 @@ fn call(replay: Replay, lent: &Lent) -> (Replayed, Lent) {
     (answer, left)
 }
 
-fn describe(seed: u64, index: u64, case: &Case, difference: &str) -> String {
+fn describe(plan: &Plan, index: u64, case: &Case, difference: &str) -> String {
     let mut text = format!(
-        "replay case {index}, seed {seed}: {} bytes, {} bytes of registers, {} counts, {} outcomes\n  {difference}",
+        "{}: {} bytes, {} bytes of registers, {} counts, {} outcomes\n  {difference}",
+        plan.again(index),
         case.recording.len(),
         case.registers,
         case.counts,

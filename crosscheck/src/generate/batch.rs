@@ -1,11 +1,13 @@
 //! Batches to compare on: a fixed sweep along the boundary of every rule, and
 //! random ones, valid, damaged or junk.
 
+use super::bytes;
 use crate::batch::{CURBE, DESCRIPTOR, END, FLUSH, LIMIT, NOOP, OBJECT, RECORD, STATE_FLUSH, VFE};
 use crate::masks;
 use crate::random::Random;
 
 /// What is lent to both entries.
+#[derive(Clone)]
 pub struct Case {
     pub batch: Vec<u32>,
     /// Bytes after the last whole dword, for the byte entry.
@@ -19,8 +21,7 @@ pub struct Case {
 
 impl Case {
     pub fn bytes(&self) -> Vec<u8> {
-        let words = self.batch.iter().flat_map(|word| word.to_le_bytes());
-        words.chain(self.tail.iter().copied()).collect()
+        [bytes(&self.batch), self.tail.clone()].concat()
     }
 
     pub fn record_bytes(&self) -> usize {
@@ -119,7 +120,7 @@ impl Command {
 }
 
 /// A dword that might be taken for a header.
-fn plausible(random: &mut Random) -> u32 {
+pub(super) fn plausible(random: &mut Random) -> u32 {
     match random.below(8) {
         0 => random.pick(&HEADERS),
         1 => random.pick(&HEADERS) ^ 1 << random.below(32),
@@ -132,6 +133,8 @@ fn plausible(random: &mut Random) -> u32 {
 /// A valid batch under construction: its commands, and what the order rules remember.
 #[derive(Default)]
 struct Draft {
+    /// Rows that a VFE may ask for.
+    most_rows: u32,
     commands: Vec<Command>,
     dwords: usize,
     vfe: bool,
@@ -152,9 +155,12 @@ enum Mix {
 }
 
 impl Draft {
-    /// A valid batch of exactly `dwords` dwords, at least 1.
-    fn valid(random: &mut Random, mix: Mix, dwords: usize) -> Self {
-        let mut draft = Draft::default();
+    /// A valid batch of exactly `dwords` dwords, at least 1, for a capacity of `most_rows`.
+    fn valid(random: &mut Random, mix: Mix, dwords: usize, most_rows: u32) -> Self {
+        let mut draft = Draft {
+            most_rows,
+            ..Draft::default()
+        };
         while draft.dwords + 1 < dwords {
             let room = dwords - 1 - draft.dwords;
             let command = match mix {
@@ -195,7 +201,7 @@ impl Draft {
     fn any(&self, random: &mut Random, room: usize) -> Option<Command> {
         match random.pick(&[0, 1, 1, 3, 3, 4, 4, 5, 5, 6, 6, 7, 7, 7, 7, 7]) {
             3 if self.in_use => Some(Command::plain(1)),
-            3 => Some(any_vfe(random)),
+            3 => Some(any_vfe(random, self.most_rows)),
             4 if self.vfe => {
                 let most = self.curbe_size.min(ROWS_IN_17_BITS);
                 let some = random.below(most as usize + 1) as u32;
@@ -231,7 +237,7 @@ impl Draft {
     /// The next command of a batch made of OBJECTs.
     fn next_object(&self, random: &mut Random, room: usize) -> Command {
         match self.commands.len() {
-            0 => any_vfe(random),
+            0 => any_vfe(random, self.most_rows),
             _ if !self.vfe => Command::plain(0),
             1 => Command::load(5, 32 * random.between(1, 64) as u32, 0x1000),
             _ if self.descriptors == 0 => Command::plain(0),
@@ -244,13 +250,19 @@ impl Draft {
     }
 }
 
-fn any_vfe(random: &mut Random) -> Command {
-    let wide = random.below(65_536) as u32;
-    let small = random.below(100) as u32;
-    let entries = random.pick(&[0, 1, 7, 64, 255, small]);
-    let entry_size = random.pick(&[0, 1, 2, small, wide, 65_535]);
-    let curbe_size = random.pick(&[0, 1, 4, small, 2016, wide, 65_535]);
-    Command::vfe(random, entries, entry_size, curbe_size)
+/// Drawn again until it asks for no more than `most_rows`.
+fn any_vfe(random: &mut Random, most_rows: u32) -> Command {
+    loop {
+        let wide = random.below(65_536) as u32;
+        let small = random.below(100) as u32;
+        let entries = random.pick(&[0, 1, 7, 64, 255, small]);
+        let entry_size = random.pick(&[0, 1, 2, small, wide, 65_535]);
+        let curbe_size = random.pick(&[0, 1, 4, small, 2016, wide, 65_535]);
+        let vfe = Command::vfe(random, entries, entry_size, curbe_size);
+        if vfe.rows() <= most_rows {
+            return vfe;
+        }
+    }
 }
 
 /// Rows that the largest VFE asks for.
@@ -323,15 +335,21 @@ pub fn random_case(random: &mut Random) -> Case {
         0 => large(random),
         _ => size(random),
     };
+    case_of(random, dwords, u32::MAX)
+}
+
+/// A case made from about so many dwords; without damage it passes where
+/// `most_rows` are lent.
+pub(super) fn case_of(random: &mut Random, dwords: usize, most_rows: u32) -> Case {
     match random.below(1000) {
         0..=250 => {
             let mix = any_mix(random);
-            let draft = Draft::valid(random, mix, dwords);
+            let draft = Draft::valid(random, mix, dwords, most_rows);
             finish(random, draft.commands, 0)
         }
         251..=750 => {
             let mix = any_mix(random);
-            let mut commands = Draft::valid(random, mix, dwords).commands;
+            let mut commands = Draft::valid(random, mix, dwords, most_rows).commands;
             // One fault mostly; two or more show which comes first.
             let faults = random.pick(&[1, 1, 1, 1, 1, 2, 2, 3, 5]);
             for _ in 0..faults {
@@ -341,7 +359,7 @@ pub fn random_case(random: &mut Random) -> Case {
         }
         751..=800 => {
             // Several faults on one command.
-            let mut commands = Draft::valid(random, Mix::All, dwords).commands;
+            let mut commands = Draft::valid(random, Mix::All, dwords, most_rows).commands;
             let at = random.below(commands.len());
             for _ in 0..random.between(2, 6) {
                 damage_at(random, &mut commands, at);
@@ -350,7 +368,7 @@ pub fn random_case(random: &mut Random) -> Case {
         }
         801..=870 => {
             // Cut anywhere: rules 2 and 5.
-            let commands = Draft::valid(random, Mix::All, dwords).commands;
+            let commands = Draft::valid(random, Mix::All, dwords, most_rows).commands;
             let cut = random.between(1, dwords);
             finish(random, commands, cut)
         }
@@ -528,7 +546,7 @@ struct Sweep {
 }
 
 /// Every kind once, in an order that passes, with zeros in all other fields.
-fn base() -> Vec<Command> {
+pub(super) fn base() -> Vec<Command> {
     let mut vfe = Command::plain(3);
     vfe.words[2] = 1 << 8;
     vfe.words[4] = 2 << 16 | 4;
@@ -775,7 +793,7 @@ impl Sweep {
         }
         for mix in [Mix::All, Mix::Objects(0), Mix::Objects(500), Mix::Idle] {
             for length in [LIMIT - 1, LIMIT, LIMIT + 1] {
-                let draft = Draft::valid(&mut self.random, mix, length);
+                let draft = Draft::valid(&mut self.random, mix, length, u32::MAX);
                 self.add(&draft.commands, u32::MAX);
                 // The record buffer one word short.
                 let short = RECORD * draft.commands.len() - 1;

@@ -1,7 +1,7 @@
 //! Batches and runs to compare the order check on: a fixed sweep along every
 //! rule, and random runs that follow the scoreboard and then break one rule.
 
-use super::batch;
+use super::{batch, bytes};
 use crate::batch::{LIMIT, RECORD};
 use crate::random::Random;
 
@@ -11,6 +11,7 @@ pub use scene::{picture, spread, Layout, Object, Scene, Vfe};
 use scene::{Follower, Habit};
 
 /// What is lent to both entries.
+#[derive(Clone)]
 pub struct Case {
     pub batch: batch::Case,
     pub run: Vec<u32>,
@@ -22,8 +23,7 @@ pub struct Case {
 
 impl Case {
     pub fn run_bytes(&self) -> Vec<u8> {
-        let words = self.run.iter().flat_map(|word| word.to_le_bytes());
-        words.chain(self.run_tail.iter().copied()).collect()
+        [bytes(&self.run), self.run_tail.clone()].concat()
     }
 
     /// Exactly the room that the scene needs.
@@ -61,7 +61,7 @@ pub fn random_case(random: &mut Random) -> Case {
 }
 
 /// A batch of any sort, refused ones included, with events that may fit it.
-fn any_batch(random: &mut Random) -> Case {
+pub(super) fn any_batch(random: &mut Random) -> Case {
     let batch = batch::random_case(random);
     let events = random.below(30);
     let objects = random.pick(&[1, 3, 30]);

@@ -10,7 +10,9 @@ fn valid_batches_pass() {
             0 => random.between(1000, LIMIT),
             _ => size(&mut random),
         };
-        let commands = Draft::valid(&mut random, mix, dwords).commands;
+        let most_rows = random.pick(&[0, 2048, u32::MAX]);
+        let commands = Draft::valid(&mut random, mix, dwords, most_rows).commands;
+        assert!(rows(&commands) <= most_rows);
         let mut records = vec![0; RECORD * commands.len()];
         let answer = check(&flat(&commands), rows(&commands), &mut records);
         assert_eq!(answer, Answer::accepted(commands.len(), dwords));

@@ -1,0 +1,13 @@
+//! Junk and near-valid batches, runs and recordings: library against second
+//! implementation, as many of each as there are cases.
+
+use super::{Plan, Report};
+use crate::generate::fuzz;
+
+pub fn run(plan: &Plan, report: &mut Report) {
+    super::batch::each(plan, report, &[], fuzz::batch);
+    #[cfg(feature = "order")]
+    super::order::each(plan, report, &[], fuzz::order);
+    #[cfg(feature = "replay")]
+    super::replay::each(plan, report, &[], fuzz::recording);
+}
