@@ -72,7 +72,7 @@ module _ (rec registers counts outcomes : List ℕ) (passed : refusalOf rec (len
   N = eventsOf rec
 
   -- the end is the world after all events
-  at-end : end rec registers counts outcomes ≡ ended s (runOf rec s N w)
+  pub at-end : end rec registers counts outcomes ≡ ended s (runOf rec s N w)
   unfolding replayOf runWhole
   at-end = simp (eq-eqb _ 0 passed)
 

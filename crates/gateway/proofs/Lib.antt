@@ -9,3 +9,4 @@ pub mod Counts
 pub mod Events
 pub mod Barriers
 pub mod Claimed
+pub mod Isolation
