@@ -1,8 +1,7 @@
 -- What holds after every event: each gateway's window lies in its thread's registers, and no count is above the number of events. Assumes nothing.
-use mathlib.Core.Path.{_≡_, refl, sym, ap, _∙_}
-use mathlib.Core.Bool.{Bool, true, false}
+use mathlib.Core.Path.{_≡_}
 use mathlib.Core.List.{List, [], _∷_}
-use Prim.Native.Nat.{ℕ, zero, suc, _+_, _*_, _^_, _≤_, _<_}
+use Prim.Native.Nat.{ℕ, zero, suc, _+_, _*_, _≤_, _<_}
 use native.Mathlib.Omega.{arith}
 use lib.Dec.{eqb}
 use lib.ListN.{getD, set, replicate}
@@ -14,7 +13,6 @@ use Rattle.event.specs.declared.Decision.the-variants.{Refused, Open, Close, Fo
 use Rattle.event.specs.Head.{headOf}
 use Rattle.event.specs.Codes.{closed, gatewayAt, Window}
 use Rattle.event.specs.Groups.{groupOf}
-use Rattle.event.specs.Outcomes.{decisionOf}
 use Rattle.event.specs.Within.{Within}
 use Rattle.event.proofs.Reach.{decision-within}
 use Rattle.gateway.specs.Recording.{eventAt}

@@ -1,13 +1,13 @@
 -- Isolation of recordings, by induction over the events (`isolated`, last). Assumes nothing.
 use mathlib.Core.Path.{_≡_, refl, sym, ap, ap₂, _∙_, subst}
-use mathlib.Core.Bool.{Bool, true, false, not, _&&_}
+use mathlib.Core.Bool.{not, _&&_}
 use mathlib.Core.List.{List, _++_}
 use Prim.Native.Nat.{ℕ, zero, suc, _+_, _*_, _-_, _/_, _%_, _^_, _≤_, _<_}
 use native.Mathlib.Omega.{arith}
 use lib.Dec.{ltb, eqb}
 use lib.ListN.{length, getD, set, take, drop, replicate, length-set, length-take, length-drop}
 use lib.Seq.{getD-take, getD-drop, getD-set-same, getD-set-other, set-out, ext-getD}
-use borrow.Author.Tests.{ltb-true, ltb-false, eqb-true, eqb-false, eq-eqb, ne-eqb}
+use borrow.Author.Tests.{ltb-true, ltb-false, eqb-true, eqb-false}
 use Rattle.laws.specs.Find.{findFirst}
 use Rattle.laws.proofs.Choices.{by-test, two-cond}
 use Rattle.laws.proofs.FindSame.{find-same}
@@ -15,10 +15,9 @@ use Rattle.laws.proofs.Paste.{paste-agree}
 use Rattle.words.specs.Dwords.{putLe}
 use Rattle.event.specs.declared.Head.{Head}
 use Rattle.event.specs.declared.Setup.{Setup}
-use Rattle.event.specs.declared.Gateway.{Gateway}
 use Rattle.event.specs.declared.Decision.{Decision}
 use Rattle.event.specs.declared.Decision.the-variants.{Refused, Open, Close, Forward, Wait, Release, Update}
-use Rattle.event.specs.Head.{byteAt, headOf}
+use Rattle.event.specs.Head.{headOf}
 use Rattle.event.specs.Codes.{gatewayAt}
 use Rattle.event.specs.Outcomes.{decisionOf, outcomeOf}
 use Rattle.event.specs.Within.{Within}
@@ -26,14 +25,14 @@ use Rattle.event.proofs.Reach.{decision-within}
 use Rattle.event.proofs.Same.{head-same}
 use Rattle.event.proofs.Sources.{Source, decision-source}
 use Rattle.gateway.specs.declared.State.{State}
-use Rattle.gateway.specs.Recording.{threadsOf, bypassOf, eventsOf, groupByte, strayGroup, strayGroupOf, groupsOf, setupOf, firstEvent, eventAt, refusalOf}
+use Rattle.gateway.specs.Recording.{threadsOf, bypassOf, eventsOf, strayGroup, strayGroupOf, groupsOf, setupOf, firstEvent, eventAt, refusalOf}
 use Rattle.gateway.specs.Effects.{forwarded, acknowledged, ackPlace, withAck, stateAfter, countsAfter}
-use Rattle.gateway.specs.Replay.{World, decisionIn, stepOf, runOf, begun, Replay, refusedAnswer, endAnswer, ended, replayOf}
-use Rattle.gateway.specs.Claims.{end, met, headAt, forwardPlace}
-use Rattle.gateway.specs.Isolation.{Own, formRefusalOf, Data, Alike, Outside, Landed, Isolated}
-use Rattle.gateway.proofs.Accepted.{passes, refused-whole}
+use Rattle.gateway.specs.Replay.{World, decisionIn, stepOf, runOf, begun, Replay, refusedAnswer, endAnswer, ended}
+use Rattle.gateway.specs.Claims.{end, forwardPlace}
+use Rattle.gateway.specs.Isolation.{Own, Data, Alike, Outside, Landed, Isolated}
+use Rattle.gateway.proofs.Accepted.{refused-whole}
 use Rattle.gateway.proofs.Bounds.{Windows, start-windows, run-windows}
-use Rattle.gateway.proofs.Claimed.{forwarded-long, ack-long, at-end, event-long, registers-long, outcome-is}
+use Rattle.gateway.proofs.Claimed.{forwarded-long, at-end, event-long, registers-long, outcome-is}
 
 -- ---- one event over two lists of registers that agree at an index
 

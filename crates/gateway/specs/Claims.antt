@@ -9,7 +9,6 @@ use lib.Dec.{eqb}
 use lib.ListN.{length, getD, set}
 use Rattle.event.specs.declared.Head.{Head}
 use Rattle.event.specs.declared.Setup.{Setup}
-use Rattle.event.specs.declared.Decision.{Decision}
 use Rattle.event.specs.Head.{headOf}
 use Rattle.event.specs.Codes.{countOf, gatewayAt}
 use Rattle.event.specs.Groups.{noGroup, groupOf, waitsOf, wholeOf, groupSize}

@@ -10,7 +10,6 @@ use Rattle.laws.specs.Rows.{row, firstRow}
 use Rattle.event.specs.Head.{byteAt}
 use Rattle.event.specs.Codes.{countOf}
 use Rattle.gateway.specs.Recording.{threadsOf, eventsOf, setupOf, firstEvent, headerRows, refusalOf}
-use Rattle.gateway.specs.Replay.{Replay, replayOf}
 use Rattle.gateway.specs.Claims.{end, met, headAt, outcomeAt, forwardPlace}
 
 -- "its registers are the lent registers' bytes from 4,096 x n on, at most 4,096": index k of the registers is thread n's

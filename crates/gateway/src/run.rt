@@ -1,6 +1,6 @@
 // The events of a recording, one after the other.
 ghost use mathlib.Core.Path.{_≡_};
-ghost use Prim.Native.Nat.{_<_, _≤_};
+ghost use Prim.Native.Nat.{_<_};
 ghost use lib.ListN.{length};
 ghost use Rattle.event.specs.Head.{headOf};
 ghost use Rattle.event.specs.Codes.{Window};
