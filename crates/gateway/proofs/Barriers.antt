@@ -27,7 +27,7 @@ use Rattle.event.proofs.Reach.{decision-within}
 use Rattle.event.proofs.Sources.{Source, decision-source}
 use Rattle.event.proofs.Waiting.{one-missing}
 use Rattle.gateway.specs.Recording.{eventAt}
-use Rattle.gateway.specs.Effects.{released, waitsAfter}
+use Rattle.effects.specs.Effects.{released, waitsAfter}
 use Rattle.gateway.specs.Replay.{World, decisionIn, stepOf, runOf, waitingOf}
 use Rattle.gateway.specs.Claims.{releases, Sound, Freed}
 use Rattle.gateway.proofs.Bounds.{Windows, run-windows}

@@ -16,9 +16,9 @@ use Rattle.event.specs.Groups.{groupOf}
 use Rattle.event.specs.Within.{Within}
 use Rattle.event.proofs.Reach.{decision-within}
 use Rattle.gateway.specs.Recording.{eventAt}
-use Rattle.gateway.specs.Effects.{gatewaysAfter, notified, paid, countsAfter}
+use Rattle.effects.specs.Effects.{gatewaysAfter, notified, paid, countsAfter}
 use Rattle.gateway.specs.Replay.{World, decisionIn, stepOf, runOf}
-use Rattle.gateway.proofs.Groups.{paid-later}
+use Rattle.effects.proofs.Groups.{paid-later}
 
 -- what holds of each element, and of the default, holds after a store of what it holds of
 all-set : {A : Type 0} (P : A → Type 0) (l : List A) (d : A) (w : ℕ) (v : A) → ((i : ℕ) → P (getD l i d)) → P v → (i : ℕ) → P (getD (set l w v) i d)

@@ -18,7 +18,7 @@ use Rattle.event.specs.Outcomes.{outcomeOf}
 use Rattle.event.specs.Within.{Within}
 use Rattle.event.proofs.Reach.{decision-within}
 use Rattle.gateway.specs.Recording.{threadsOf, eventsOf, setupOf, eventAt, refusalOf}
-use Rattle.gateway.specs.Effects.{forwarded, acknowledged, withAck}
+use Rattle.effects.specs.Effects.{forwarded, acknowledged, withAck}
 use Rattle.gateway.specs.Replay.{World, decisionIn, stepOf, runOf, begun, Replay, ended, runWhole, replayOf}
 use Rattle.gateway.specs.Claims.{Counted, Unchanged, end, met, headAt, outcomeAt, Claimed}
 use Rattle.gateway.proofs.Accepted.{events-fill, registers-own, counts-two, outcomes-room, zeros}

@@ -19,9 +19,9 @@ use Rattle.event.specs.Outcomes.{outcomeOf}
 use Rattle.event.specs.Within.{Within}
 use Rattle.event.proofs.Reach.{decision-within}
 use Rattle.event.proofs.Sources.{Source, decision-source}
-use Rattle.gateway.specs.declared.State.{State}
-use Rattle.gateway.specs.Effects.{gatewaysAfter, bytesAfter, waitsAfter, countsAfter, forwarded, acknowledged, ackPlace, withAck, stateAfter}
-use Rattle.gateway.specs.Replay.{World, decisionIn, stepOf}
+use Rattle.effects.specs.declared.State.{State}
+use Rattle.effects.specs.Effects.{gatewaysAfter, bytesAfter, waitsAfter, countsAfter, forwarded, acknowledged, ackPlace, withAck}
+use Rattle.gateway.specs.Replay.{stateAfter, World, decisionIn, stepOf}
 use Rattle.gateway.specs.Claims.{Unchanged, forwardPlace, Written}
 
 -- ---- a refused event

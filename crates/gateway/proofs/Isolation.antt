@@ -24,10 +24,10 @@ use Rattle.event.specs.Within.{Within}
 use Rattle.event.proofs.Reach.{decision-within}
 use Rattle.event.proofs.Same.{head-same}
 use Rattle.event.proofs.Sources.{Source, decision-source}
-use Rattle.gateway.specs.declared.State.{State}
+use Rattle.effects.specs.declared.State.{State}
 use Rattle.gateway.specs.Recording.{threadsOf, bypassOf, eventsOf, strayGroup, strayGroupOf, groupsOf, setupOf, firstEvent, eventAt, refusalOf}
-use Rattle.gateway.specs.Effects.{forwarded, acknowledged, ackPlace, withAck, stateAfter, countsAfter}
-use Rattle.gateway.specs.Replay.{World, decisionIn, stepOf, runOf, begun, Replay, refusedAnswer, endAnswer, ended}
+use Rattle.effects.specs.Effects.{forwarded, acknowledged, ackPlace, withAck, countsAfter}
+use Rattle.gateway.specs.Replay.{stateAfter, World, decisionIn, stepOf, runOf, begun, Replay, refusedAnswer, endAnswer, ended}
 use Rattle.gateway.specs.Claims.{end, forwardPlace}
 use Rattle.gateway.specs.Isolation.{Own, Data, Alike, Outside, Landed, Isolated}
 use Rattle.gateway.proofs.Accepted.{refused-whole}

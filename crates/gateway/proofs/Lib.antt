@@ -1,6 +1,4 @@
-pub mod Groups
 pub mod Header
-pub mod Acks
 pub mod Turns
 pub mod Bounds
 pub mod Masks

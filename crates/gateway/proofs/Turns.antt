@@ -18,8 +18,8 @@ use Rattle.event.specs.Codes.{closed, gatewayAt}
 use Rattle.event.specs.Outcomes.{decisionOf, outcomeOf}
 use Rattle.event.specs.Within.{Within}
 use Rattle.gateway.specs.Recording.{threadsOf, eventAt}
-use Rattle.gateway.specs.Effects.{changesState, gatewaysAfter, gatewaySlot, gatewayAfter, bytesAfter, byteSlot, byteAfter, waitsAfter, countsAfter, registersAfter}
-use Rattle.gateway.specs.Replay.{World, leaves, stepOf, runOf}
+use Rattle.effects.specs.Effects.{changesState, gatewaysAfter, gatewaySlot, gatewayAfter, bytesAfter, byteSlot, byteAfter, waitsAfter, countsAfter}
+use Rattle.gateway.specs.Replay.{registersAfter, World, leaves, stepOf, runOf}
 
 -- a thread above the sixteen has no gateway
 pub no-gateway : (gs : List Gateway) (t : ℕ) → length gs ≡ 16 → 16 ≤ t → closed ≡ gatewayAt gs t

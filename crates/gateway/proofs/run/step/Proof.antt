@@ -3,8 +3,8 @@ use mathlib.Core.Path.{ap, _∙_}
 use Rattle.event.specs.declared.Head.{Head}
 use Rattle.event.specs.Outcomes.{decisionOf, outcomeOf}
 use Rattle.event.proofs.Reach.{decision-within}
-use Rattle.gateway.proofs.Acks.{ack-room}
-use Rattle.gateway.specs.Effects.{withAck}
+use Rattle.effects.proofs.Acks.{ack-room}
+use Rattle.effects.specs.Effects.{withAck}
 use borrow.Author.Needs.{needs}
 use Rattle.gateway.proofs.run.step.Statement.{statement}
 use Rattle.gateway.proofs.run.step.Tie as tie
