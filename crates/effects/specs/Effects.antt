@@ -26,35 +26,6 @@ gatewaysAfter (Wait t) gs = gs
 gatewaysAfter (Release g) gs = gs
 gatewaysAfter (Update b v) gs = gs
 
--- Does a decision change what the next event meets beside registers and counts?
-abbrev pub changesState : Decision → Bool
-changesState (Refused n) = false
-changesState (Open t b z k) = true
-changesState (Close t) = true
-changesState (Forward r a n m) = false
-changesState (Wait t) = true
-changesState (Release g) = true
-changesState (Update b v) = true
-
--- A decision changes one gateway at most: whose, and to what.
-abbrev pub gatewaySlot : Decision → ℕ
-gatewaySlot (Refused n) = 0
-gatewaySlot (Open t b z k) = t
-gatewaySlot (Close t) = t
-gatewaySlot (Forward r a n m) = 0
-gatewaySlot (Wait t) = 0
-gatewaySlot (Release g) = 0
-gatewaySlot (Update b v) = 0
-
-abbrev pub gatewayAfter : Decision → Gateway → Gateway
-gatewayAfter (Refused n) g = g
-gatewayAfter (Open t b z k) g = opened b z k
-gatewayAfter (Close t) g = closed
-gatewayAfter (Forward r a n m) g = g
-gatewayAfter (Wait t) g = g
-gatewayAfter (Release b) g = g
-gatewayAfter (Update b v) g = g
-
 -- "An update sets the barrier byte."
 unfoldable pub bytesAfter : Decision → List ℕ → List ℕ
 bytesAfter (Refused n) bs = bs
@@ -64,24 +35,6 @@ bytesAfter (Forward r a n m) bs = bs
 bytesAfter (Wait t) bs = bs
 bytesAfter (Release g) bs = bs
 bytesAfter (Update b v) bs = set bs b v
-
-abbrev pub byteSlot : Decision → ℕ
-byteSlot (Refused n) = 0
-byteSlot (Open t b z k) = 0
-byteSlot (Close t) = 0
-byteSlot (Forward r a n m) = 0
-byteSlot (Wait t) = 0
-byteSlot (Release g) = 0
-byteSlot (Update b v) = b
-
-abbrev pub byteAfter : Decision → ℕ → ℕ
-byteAfter (Refused n) x = x
-byteAfter (Open t b z k) x = x
-byteAfter (Close t) x = x
-byteAfter (Forward r a n m) x = x
-byteAfter (Wait t) x = x
-byteAfter (Release g) x = x
-byteAfter (Update b v) x = v
 
 -- the members of group g among the first n threads wait no more
 unfoldable pub released : ℕ → List ℕ → ℕ → List Bool → List Bool

@@ -18,7 +18,8 @@ use Rattle.event.specs.Codes.{closed, gatewayAt}
 use Rattle.event.specs.Outcomes.{decisionOf, outcomeOf}
 use Rattle.event.specs.Within.{Within}
 use Rattle.gateway.specs.Recording.{threadsOf, eventAt}
-use Rattle.effects.specs.Effects.{changesState, gatewaysAfter, gatewaySlot, gatewayAfter, bytesAfter, byteSlot, byteAfter, waitsAfter, countsAfter}
+use Rattle.effects.specs.Effects.{gatewaysAfter, bytesAfter, waitsAfter, countsAfter}
+use Rattle.effects.specs.Slots.{changesState, gatewaySlot, gatewayAfter, byteSlot, byteAfter}
 use Rattle.gateway.specs.Replay.{registersAfter, World, leaves, stepOf, runOf}
 
 -- a thread above the sixteen has no gateway
