@@ -5,3 +5,4 @@ pub mod Waiting
 pub mod Rules
 pub mod Reach
 pub mod Sources
+pub mod Same

@@ -1,14 +1,14 @@
 -- Where a decision may reach. Assumes nothing.
-use mathlib.Core.Path.{_≡_, refl, sym, ap, _∙_, subst}
-use mathlib.Core.Bool.{Bool, true, false, not, _&&_, _||_}
+use mathlib.Core.Path.{_≡_, sym, ap, subst}
+use mathlib.Core.Bool.{Bool, true, false, not}
 use mathlib.Core.List.{List}
 use Prim.Native.Nat.{ℕ, _+_, _*_, _^_, _≤_, _<_}
 use native.Mathlib.Omega.{arith}
 use lib.Dec.{ltb, leb, eqb}
 use lib.ListN.{set}
 use lib.Pow.{pow-mono}
-use borrow.Author.Tests.{ltb-false, leb-false, eqb-true, eqb-false, eq-eqb, ne-eqb, not-true}
-use Rattle.laws.proofs.Choices.{by-cond, by-test, and-left, and-right, not-both}
+use borrow.Author.Tests.{ltb-false, leb-false, eqb-true, eqb-false}
+use Rattle.laws.proofs.Choices.{by-cond, by-test}
 use Rattle.event.specs.declared.Head.{Head}
 use Rattle.event.specs.declared.Setup.{Setup}
 use Rattle.event.specs.declared.Gateway.{Gateway}
@@ -16,9 +16,9 @@ use Rattle.event.specs.declared.Decision.{Decision}
 use Rattle.event.specs.declared.Decision.the-variants.{Refused}
 use Rattle.event.specs.Codes.{Window}
 use Rattle.event.specs.Groups.{groupOf, waitsOf, wholeOf}
-use Rattle.event.specs.Outcomes.{ends, bypassed, countedAck, windowLimit, malformed, ruledOf, decidedOf, decisionOf, outcomeOf}
-use Rattle.event.specs.Within.{OwnBytes, Within}
-use Rattle.event.proofs.Formed.{formed-kind, formed-sender, formed-register, forward-code, open-code, update-barrier}
+use Rattle.event.specs.Outcomes.{ends, bypassed, malformed, ruledOf, decidedOf, decisionOf, outcomeOf}
+use Rattle.event.specs.Within.{Within}
+use Rattle.event.proofs.Formed.{formed-kind, formed-sender, forward-code, open-code, update-barrier}
 use Rattle.event.proofs.Rules.{left-over}
 
 module _ (h : Head) (s : Setup) (g : Gateway) (waits : List Bool) where

@@ -2,7 +2,7 @@
 use mathlib.Core.Path.{_≡_, refl, sym, subst}
 use mathlib.Core.Bool.{Bool, true, false, not}
 use mathlib.Core.List.{List}
-use Prim.Native.Nat.{ℕ, _+_, _*_, _^_, _≤_, _<_}
+use Prim.Native.Nat.{ℕ, _+_, _*_, _^_, _≤_}
 use native.Mathlib.Omega.{arith}
 use lib.Dec.{ltb, leb, eqb}
 use lib.ListN.{set}
@@ -14,7 +14,7 @@ use Rattle.event.specs.declared.Gateway.{Gateway}
 use Rattle.event.specs.declared.Decision.{Decision}
 use Rattle.event.specs.declared.Decision.the-variants.{Refused, Open, Close, Forward, Wait, Release, Update}
 use Rattle.event.specs.Groups.{groupOf, waitsOf, wholeOf}
-use Rattle.event.specs.Outcomes.{ends, bypassed, windowStart, windowLimit, malformed, ruledOf, decisionOf}
+use Rattle.event.specs.Outcomes.{ends, bypassed, windowStart, malformed, ruledOf, decisionOf}
 use Rattle.event.proofs.Formed.{formed-kind}
 use Rattle.event.proofs.Rules.{left-over}
 use Rattle.event.proofs.Reach.{decided-31, decided-formed}

@@ -16,7 +16,7 @@ module _ (rec : List ℕ) (registers counts outcomes : ℕ) (passed : refusalOf 
   abbrev rows : List Row
   rows = headerRows rec ++ lengthRows rec registers counts outcomes
 
-  passes : (i : ℕ) → getD rows i noRow .holds ≡ false
+  pub passes : (i : ℕ) → getD rows i noRow .holds ≡ false
   unfolding refusalOf
   passes i = no-row rows tt passed i
 

@@ -2,7 +2,7 @@
 use mathlib.Core.Path.{_≡_, refl, sym, ap, ap₂, _∙_, subst}
 use mathlib.Core.Bool.{Bool, true, false, cond, _&&_}
 use mathlib.Core.List.{List, [], _∷_}
-use Prim.Native.Nat.{ℕ, zero, suc, _+_, _*_, _-_, _/_, _%_, _^_, _≤_, _<_}
+use Prim.Native.Nat.{ℕ, zero, suc, _+_, _*_, _-_, _/_, _%_, _^_, _<_}
 use native.Mathlib.Omega.{arith}
 use native.Mathlib.Nat.{pow-suc, add-mul-div-right, add-comm, mul-assoc}
 use native.Mathlib.Numerals.{add-one}
@@ -11,8 +11,8 @@ use lib.Dec.{eqb}
 use lib.ListN.{getD, set, replicate}
 use lib.Pow.{pow-add, pow-pos}
 use lib.Seq.{getD-set-other}
-use borrow.Author.Tests.{eqb-true, eqb-false, eq-eqb, ne-eqb}
-use Rattle.laws.proofs.Choices.{by-cond, two-cond, by-test, and-left, not-both}
+use borrow.Author.Tests.{eqb-true, eqb-false}
+use Rattle.laws.proofs.Choices.{by-cond, two-cond, by-test, not-both}
 use Rattle.event.specs.declared.Head.{Head}
 use Rattle.event.specs.declared.Setup.{Setup}
 use Rattle.event.specs.declared.Gateway.{Gateway}
@@ -21,15 +21,14 @@ use Rattle.event.specs.declared.Decision.the-variants.{Refused, Open, Close, Fo
 use Rattle.event.specs.Head.{headOf}
 use Rattle.event.specs.Codes.{gatewayAt}
 use Rattle.event.specs.Groups.{groupOf, waitsOf, allWait, wholeOf}
-use Rattle.event.specs.Outcomes.{decisionOf, outcomeOf}
+use Rattle.event.specs.Outcomes.{outcomeOf}
 use Rattle.event.specs.Within.{Within}
 use Rattle.event.proofs.Reach.{decision-within}
 use Rattle.event.proofs.Sources.{Source, decision-source}
 use Rattle.event.proofs.Waiting.{one-missing}
-use Rattle.gateway.specs.declared.State.{State}
 use Rattle.gateway.specs.Recording.{eventAt}
-use Rattle.gateway.specs.Effects.{released, waitsAfter}
-use Rattle.gateway.specs.Replay.{World, decisionIn, stepOf, runOf, start, waitingOf, barrierOf}
+use Rattle.effects.specs.Effects.{released, waitsAfter}
+use Rattle.gateway.specs.Replay.{World, decisionIn, stepOf, runOf, waitingOf}
 use Rattle.gateway.specs.Claims.{releases, Sound, Freed}
 use Rattle.gateway.proofs.Bounds.{Windows, run-windows}
 use Rattle.gateway.proofs.Masks.{waiting-lt}

@@ -1,8 +1,7 @@
 -- What holds after every event: each gateway's window lies in its thread's registers, and no count is above the number of events. Assumes nothing.
-use mathlib.Core.Path.{_≡_, refl, sym, ap, _∙_}
-use mathlib.Core.Bool.{Bool, true, false}
+use mathlib.Core.Path.{_≡_}
 use mathlib.Core.List.{List, [], _∷_}
-use Prim.Native.Nat.{ℕ, zero, suc, _+_, _*_, _^_, _≤_, _<_}
+use Prim.Native.Nat.{ℕ, zero, suc, _+_, _*_, _≤_, _<_}
 use native.Mathlib.Omega.{arith}
 use lib.Dec.{eqb}
 use lib.ListN.{getD, set, replicate}
@@ -14,13 +13,12 @@ use Rattle.event.specs.declared.Decision.the-variants.{Refused, Open, Close, Fo
 use Rattle.event.specs.Head.{headOf}
 use Rattle.event.specs.Codes.{closed, gatewayAt, Window}
 use Rattle.event.specs.Groups.{groupOf}
-use Rattle.event.specs.Outcomes.{decisionOf}
 use Rattle.event.specs.Within.{Within}
 use Rattle.event.proofs.Reach.{decision-within}
 use Rattle.gateway.specs.Recording.{eventAt}
-use Rattle.gateway.specs.Effects.{gatewaysAfter, notified, paid, countsAfter}
+use Rattle.effects.specs.Effects.{gatewaysAfter, notified, paid, countsAfter}
 use Rattle.gateway.specs.Replay.{World, decisionIn, stepOf, runOf}
-use Rattle.gateway.proofs.Groups.{paid-later}
+use Rattle.effects.proofs.Groups.{paid-later}
 
 -- what holds of each element, and of the default, holds after a store of what it holds of
 all-set : {A : Type 0} (P : A → Type 0) (l : List A) (d : A) (w : ℕ) (v : A) → ((i : ℕ) → P (getD l i d)) → P v → (i : ℕ) → P (getD (set l w v) i d)

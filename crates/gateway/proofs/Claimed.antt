@@ -1,17 +1,15 @@
 -- Every claim of specs/Claims.antt, for a recording that is not refused. Assumes nothing.
 use mathlib.Core.Path.{_≡_, refl, sym, ap, _∙_, subst}
-use mathlib.Core.Bool.{Bool, true, false}
 use mathlib.Core.List.{List}
-use Prim.Native.Nat.{ℕ, zero, suc, _+_, _*_, _≤_, _<_}
+use Prim.Native.Nat.{ℕ, zero, suc, _*_, _≤_, _<_}
 use native.Mathlib.Omega.{arith}
-use lib.ListN.{length, getD, drop, replicate, take, length-take, length-drop, length-replicate}
+use lib.ListN.{length, getD, drop, length-take, length-drop, length-replicate}
 use lib.Seq.{length-paste}
 use borrow.Author.Tests.{eq-eqb}
 use Rattle.laws.proofs.Choices.{by-cond}
 use Rattle.words.proofs.Dwords.{length-put}
 use Rattle.event.specs.declared.Head.{Head}
 use Rattle.event.specs.declared.Setup.{Setup}
-use Rattle.event.specs.declared.Gateway.{Gateway}
 use Rattle.event.specs.declared.Decision.{Decision}
 use Rattle.event.specs.declared.Decision.the-variants.{Refused, Open, Close, Forward, Wait, Release, Update}
 use Rattle.event.specs.Head.{headOf}
@@ -20,10 +18,10 @@ use Rattle.event.specs.Outcomes.{outcomeOf}
 use Rattle.event.specs.Within.{Within}
 use Rattle.event.proofs.Reach.{decision-within}
 use Rattle.gateway.specs.Recording.{threadsOf, eventsOf, setupOf, eventAt, refusalOf}
-use Rattle.gateway.specs.Effects.{forwarded, acknowledged, withAck}
+use Rattle.effects.specs.Effects.{forwarded, acknowledged, withAck}
 use Rattle.gateway.specs.Replay.{World, decisionIn, stepOf, runOf, begun, Replay, ended, runWhole, replayOf}
-use Rattle.gateway.specs.Claims.{Counted, Unchanged, end, met, headAt, outcomeAt, Forwarded, Claimed}
-use Rattle.gateway.proofs.Accepted.{few-threads, events-fill, registers-own, counts-two, outcomes-room, zeros}
+use Rattle.gateway.specs.Claims.{Counted, Unchanged, end, met, headAt, outcomeAt, Claimed}
+use Rattle.gateway.proofs.Accepted.{events-fill, registers-own, counts-two, outcomes-room, zeros}
 use Rattle.gateway.proofs.Bounds.{Windows, start-windows, run-windows}
 use Rattle.gateway.proofs.Counts.{outcome-at, counted}
 use Rattle.gateway.proofs.Events.{refused-unchanged, forward-written}
@@ -72,7 +70,7 @@ module _ (rec registers counts outcomes : List ℕ) (passed : refusalOf rec (len
   N = eventsOf rec
 
   -- the end is the world after all events
-  at-end : end rec registers counts outcomes ≡ ended s (runOf rec s N w)
+  pub at-end : end rec registers counts outcomes ≡ ended s (runOf rec s N w)
   unfolding replayOf runWhole
   at-end = simp (eq-eqb _ 0 passed)
 

@@ -1,6 +1,6 @@
 -- The counts of a run add up to its notifications and releases. Assumes nothing.
-use mathlib.Core.Path.{_≡_, refl, sym, ap, ap₂, _∙_, subst}
-use mathlib.Core.Bool.{Bool, true, false, cond, _&&_}
+use mathlib.Core.Path.{_≡_, refl, sym, ap, ap₂, _∙_}
+use mathlib.Core.Bool.{Bool, true, false}
 use mathlib.Core.List.{List}
 use mathlib.Core.Logic.{_≢_}
 use Prim.Native.Nat.{ℕ, zero, suc, _+_, _*_, _≤_, _<_}
@@ -23,10 +23,10 @@ use Rattle.event.specs.Within.{Within}
 use Rattle.event.proofs.Reach.{decision-within}
 use Rattle.event.proofs.Sources.{Source, decision-source}
 use Rattle.gateway.specs.Recording.{eventAt}
-use Rattle.gateway.specs.Effects.{n0, n2, oneMore, notified, paid, countsAfter}
+use Rattle.effects.specs.Effects.{n0, n2, oneMore, notified, paid, countsAfter}
 use Rattle.gateway.specs.Replay.{World, decisionIn, stepOf, runOf}
 use Rattle.gateway.specs.Claims.{totalOf, notification, releases, releaseSize, notifications, releaseSizes, Counted}
-use Rattle.gateway.proofs.Groups.{paid-long}
+use Rattle.effects.proofs.Groups.{paid-long}
 use Rattle.gateway.proofs.Bounds.{Windows, run-windows}
 
 -- ---- totals

@@ -1,12 +1,10 @@
 -- What one event does by its outcome: refused, it changes nothing but its outcome byte and its acknowledgement; an accepted forward writes its own
 -- bytes and no other. Assumes nothing.
-use mathlib.Core.Path.{_≡_, refl, sym, ap, _∙_}
-use mathlib.Core.Bool.{Bool, true, false}
+use mathlib.Core.Path.{_≡_, refl, ap, _∙_}
 use mathlib.Core.List.{List}
 use Prim.Native.Nat.{ℕ, _+_, _*_, _/_, _^_, _≤_, _<_}
 use native.Mathlib.Omega.{arith}
 use lib.ListN.{length, getD, drop, length-drop}
-use lib.Pow.{pow-mono}
 use lib.Seq.{paste, getD-drop, length-paste}
 use Rattle.laws.proofs.Choices.{by-cond}
 use Rattle.laws.proofs.Paste.{paste-before, paste-in, paste-after}
@@ -17,13 +15,13 @@ use Rattle.event.specs.declared.Decision.{Decision}
 use Rattle.event.specs.declared.Decision.the-variants.{Refused, Open, Close, Forward, Wait, Release, Update}
 use Rattle.event.specs.Head.{headOf}
 use Rattle.event.specs.Codes.{gatewayAt, Window}
-use Rattle.event.specs.Outcomes.{decisionOf, outcomeOf}
+use Rattle.event.specs.Outcomes.{outcomeOf}
 use Rattle.event.specs.Within.{Within}
 use Rattle.event.proofs.Reach.{decision-within}
 use Rattle.event.proofs.Sources.{Source, decision-source}
-use Rattle.gateway.specs.declared.State.{State}
-use Rattle.gateway.specs.Effects.{gatewaysAfter, bytesAfter, waitsAfter, countsAfter, forwarded, acknowledged, ackPlace, withAck, stateAfter}
-use Rattle.gateway.specs.Replay.{World, decisionIn, stepOf}
+use Rattle.effects.specs.declared.State.{State}
+use Rattle.effects.specs.Effects.{gatewaysAfter, bytesAfter, waitsAfter, countsAfter, forwarded, acknowledged, ackPlace, withAck}
+use Rattle.gateway.specs.Replay.{stateAfter, World, decisionIn, stepOf}
 use Rattle.gateway.specs.Claims.{Unchanged, forwardPlace, Written}
 
 -- ---- a refused event

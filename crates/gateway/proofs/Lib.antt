@@ -1,6 +1,4 @@
-pub mod Groups
 pub mod Header
-pub mod Acks
 pub mod Turns
 pub mod Bounds
 pub mod Masks
@@ -9,3 +7,4 @@ pub mod Counts
 pub mod Events
 pub mod Barriers
 pub mod Claimed
+pub mod Isolation

@@ -1,15 +1,14 @@
 -- A turn of the loop over the events takes the world after i events to the world after one more. Assumes nothing.
-use mathlib.Core.Path.{_≡_, refl, sym, ap, ap₂, _∙_, subst}
+use mathlib.Core.Path.{_≡_, refl, sym, ap, ap₂, _∙_}
 use mathlib.Core.Bool.{Bool, true, false}
 use mathlib.Core.List.{List}
-use Prim.Native.Nat.{ℕ, zero, suc, _+_, _*_, _-_, _≤_, _<_}
+use Prim.Native.Nat.{ℕ, _+_, _*_, _-_, _≤_, _<_}
 use native.Mathlib.Nat.{add-sub-cancel-left}
 use native.Mathlib.Numerals.{add-one}
 use native.Mathlib.Omega.{arith}
 use lib.ListN.{length, getD, set, take, drop, length-take, length-drop, length-set, List·getD-eq-default}
 use lib.Seq.{set-getD}
 use Rattle.laws.proofs.Choices.{not-both}
-use Rattle.event.specs.declared.Head.{Head}
 use Rattle.event.specs.declared.Setup.{Setup}
 use Rattle.event.specs.declared.Gateway.{Gateway}
 use Rattle.event.specs.declared.Decision.{Decision}
@@ -18,10 +17,10 @@ use Rattle.event.specs.Head.{headOf}
 use Rattle.event.specs.Codes.{closed, gatewayAt}
 use Rattle.event.specs.Outcomes.{decisionOf, outcomeOf}
 use Rattle.event.specs.Within.{Within}
-use Rattle.gateway.specs.declared.State.{State}
 use Rattle.gateway.specs.Recording.{threadsOf, eventAt}
-use Rattle.gateway.specs.Effects.{changesState, gatewaysAfter, gatewaySlot, gatewayAfter, bytesAfter, byteSlot, byteAfter, waitsAfter, countsAfter, registersAfter}
-use Rattle.gateway.specs.Replay.{World, leaves, stepOf, runOf}
+use Rattle.effects.specs.Effects.{gatewaysAfter, bytesAfter, waitsAfter, countsAfter}
+use Rattle.effects.specs.Slots.{changesState, gatewaySlot, gatewayAfter, byteSlot, byteAfter}
+use Rattle.gateway.specs.Replay.{registersAfter, World, leaves, stepOf, runOf}
 
 -- a thread above the sixteen has no gateway
 pub no-gateway : (gs : List Gateway) (t : ℕ) → length gs ≡ 16 → 16 ≤ t → closed ≡ gatewayAt gs t

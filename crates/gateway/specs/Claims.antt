@@ -9,14 +9,13 @@ use lib.Dec.{eqb}
 use lib.ListN.{length, getD, set}
 use Rattle.event.specs.declared.Head.{Head}
 use Rattle.event.specs.declared.Setup.{Setup}
-use Rattle.event.specs.declared.Decision.{Decision}
 use Rattle.event.specs.Head.{headOf}
 use Rattle.event.specs.Codes.{countOf, gatewayAt}
 use Rattle.event.specs.Groups.{noGroup, groupOf, waitsOf, wholeOf, groupSize}
 use Rattle.event.specs.Outcomes.{isForward, isBarrier, windowStart}
-use Rattle.gateway.specs.declared.State.{State}
+use Rattle.effects.specs.declared.State.{State}
 use Rattle.gateway.specs.Recording.{threadsOf, eventsOf, setupOf, eventAt}
-use Rattle.gateway.specs.Effects.{n0, n2, ackPlace, withAck}
+use Rattle.effects.specs.Effects.{n0, n2, ackPlace, withAck}
 use Rattle.gateway.specs.Replay.{World, barrierOf, runOf, stepOf, begun, Replay, replayOf}
 
 -- ---- counts

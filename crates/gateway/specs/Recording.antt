@@ -1,9 +1,9 @@
 -- A recording's header, and why a whole recording is refused: document 01, "The gateway recording".
 use Prim.Native.Nat.{ℕ, _+_, _*_, _-_}
-use mathlib.Core.Bool.{Bool, not, _&&_, _||_}
+use mathlib.Core.Bool.{Bool, not, _&&_}
 use mathlib.Core.List.{List, [], _∷_, _++_}
-use lib.Dec.{ltb, leb, eqb}
-use lib.ListN.{length, getD, take, drop, replicate}
+use lib.Dec.{ltb, eqb}
+use lib.ListN.{length, take, drop, replicate}
 use Rattle.laws.specs.Rows.{Row, row, firstRow}
 use Rattle.laws.specs.Find.{findFirst}
 use Rattle.event.specs.declared.Setup.{Setup}

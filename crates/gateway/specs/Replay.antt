@@ -14,11 +14,23 @@ use Rattle.event.specs.Head.{headOf}
 use Rattle.event.specs.Codes.{closed, gatewayAt}
 use Rattle.event.specs.Groups.{groupOf, waitsOf}
 use Rattle.event.specs.Outcomes.{decisionOf, outcomeOf}
-use Rattle.gateway.specs.declared.State.{State}
+use Rattle.effects.specs.declared.State.{State}
 use Rattle.gateway.specs.declared.Barrier.{Barrier}
 use Rattle.gateway.specs.declared.Replayed.{Replayed}
 use Rattle.gateway.specs.Recording.{threadsOf, setupOf, eventsOf, eventAt, refusalOf}
-use Rattle.gateway.specs.Effects.{stateAfter, countsAfter, registersAfter}
+use Rattle.effects.specs.Effects.{gatewaysAfter, bytesAfter, waitsAfter, countsAfter, forwarded, withAck}
+
+-- What a decision d leaves of a state, and of the registers: "Last, a counted ack".
+abbrev pub stateAfter : Decision → Setup → State → State
+stateAfter d s w =
+    record {
+      gateways = gatewaysAfter d (w .gateways);
+      bytes = bytesAfter d (w .bytes);
+      waits = waitsAfter d s (w .waits);
+    }
+
+abbrev pub registersAfter : Head → Decision → List ℕ → List ℕ → List ℕ
+registersAfter h d ev rs = withAck h (outcomeOf d) (forwarded d ev rs)
 
 -- All that an event meets, and all that it leaves.
 pub record World : Type 0 where

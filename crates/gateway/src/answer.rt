@@ -4,7 +4,7 @@ ghost use Prim.Native.Nat.{_^_, _≤_, _<_};
 ghost use Rattle.gateway.specs.Replay.{waitingOf, barriersOf, refusedAnswer, endAnswer};
 use crate::Barrier;
 use crate::Replayed;
-use crate::State;
+use effects::State;
 use event::Gateway;
 use event::Setup;
 

@@ -6,7 +6,6 @@ use event::Gateway;
 use event::heads::half;
 
 pub mod answer;
-pub mod effects;
 pub mod recording;
 pub mod run;
 
@@ -23,13 +22,6 @@ pub struct Replayed {
     pub number: u32,
     pub gateways: [Gateway; 16],
     pub barriers: [Barrier; 16],
-}
-
-// What an event leaves to the next: each thread's gateway, each barrier's byte, and which threads wait.
-pub struct State {
-    pub gateways: [Gateway; 16],
-    pub bytes: [u32; 16],
-    pub waits: [bool; 16],
 }
 
 // Counts begin at zero.

@@ -6,3 +6,4 @@ pub mod Choices
 pub mod Rows
 pub mod Filled
 pub mod Paste
+pub mod FindSame

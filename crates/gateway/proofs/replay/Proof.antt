@@ -1,6 +1,6 @@
-use mathlib.Core.Path.{_≡_, refl, sym, ap, _∙_}
+use mathlib.Core.Path.{sym, ap, _∙_}
 use native.Mathlib.Omega.{arith}
-use Rattle.gateway.specs.Replay.{World, Replay}
+use Rattle.gateway.specs.Replay.{Replay}
 use Rattle.gateway.proofs.Accepted.{set-up, few, running, refused-whole, replayed-whole}
 use borrow.Author.Needs.{needs}
 use Rattle.gateway.proofs.replay.Statement.{statement}

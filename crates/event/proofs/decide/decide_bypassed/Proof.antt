@@ -1,6 +1,6 @@
 use native.Mathlib.Nat.{add-zero}
 use Rattle.event.proofs.Formed.{forward-code, forward-offset}
-use borrow.Author.Tests.{lt-ltb, le-ltb, lt-leb, eq-eqb, ne-eqb}
+use borrow.Author.Tests.{lt-ltb, le-ltb, lt-leb, eq-eqb}
 use native.Mathlib.Omega.{arith}
 use Rattle.event.specs.Outcomes.{ruledOf}
 use borrow.Author.Needs.{needs}

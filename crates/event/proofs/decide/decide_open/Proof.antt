@@ -1,5 +1,5 @@
 use Rattle.event.proofs.Formed.{open-base, open-code}
-use borrow.Author.Tests.{lt-ltb, le-ltb, eq-eqb, ne-eqb}
+use borrow.Author.Tests.{lt-ltb, le-ltb, ne-eqb}
 use Rattle.event.proofs.Tests.{tests}
 use native.Mathlib.Omega.{arith}
 use Rattle.event.specs.Outcomes.{ruledOf}

@@ -1,5 +1,3 @@
-use Rattle.event.specs.Head.{headOf}
-use Rattle.laws.proofs.BitRanges.{taken, taken-low}
 use Rattle.event.proofs.Taken.{made}
 use borrow.Author.Needs.{needs}
 use Rattle.event.proofs.heads.head.Statement.{statement}

@@ -1,16 +1,11 @@
-use borrow.Author.Needs.{needs}
 use native.Mathlib.Omega.{arith}
 use native.Mathlib.Nat.{le-antisymm}
-use mathlib.Core.Path.{_≡_, refl, sym, ap, _∙_}
-use mathlib.Core.Bool.{Bool, true, false}
-use mathlib.Core.List.{List, _++_}
-use mathlib.Core.Logic.{⊎-elim}
-use Prim.Native.Nat.{ℕ, _≤_, _-_, _+_, _*_}
+use mathlib.Core.Path.{_≡_, refl, ap, _∙_}
+use Prim.Native.Nat.{ℕ, _≤_, _-_}
 use mathlib.Core.List.{[]}
 use lib.ListN.{getD, set, replicate}
 use Rattle.laws.specs.Filled.{filled}
 use Rattle.laws.proofs.Filled.{filled-turn}
-use Rattle.gateway.specs.declared.Barrier.{Barrier}
 use Rattle.gateway.specs.Replay.{barrierOf, emptyBarrier, barriersOf}
 use Rattle.gateway.proofs.answer.barriers.Statement.{statement}
 use Rattle.gateway.proofs.answer.barriers.Tie as tie

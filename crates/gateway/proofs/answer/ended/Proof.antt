@@ -1,4 +1,3 @@
-use mathlib.Core.Path.{_≡_}
 use borrow.Author.Needs.{needs}
 use Rattle.gateway.proofs.answer.ended.Statement.{statement}
 use Rattle.gateway.proofs.answer.ended.Tie as tie

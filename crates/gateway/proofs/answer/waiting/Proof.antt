@@ -1,12 +1,9 @@
 use mathlib.Core.Path.{ap₂}
-use borrow.Author.Needs.{needs}
 use native.Mathlib.Omega.{arith}
 use native.Mathlib.Nat.{le-antisymm}
-use mathlib.Core.Path.{_≡_, refl, sym, ap, _∙_}
-use mathlib.Core.Bool.{Bool, true, false}
-use mathlib.Core.List.{List, _++_}
+use mathlib.Core.Path.{_≡_, refl, ap, _∙_}
 use mathlib.Core.Logic.{⊎-elim}
-use Prim.Native.Nat.{ℕ, _≤_, _-_, _+_, _*_, _^_}
+use Prim.Native.Nat.{ℕ, _≤_, _-_, _+_}
 use lib.Pow.{pow-mono}
 use Rattle.gateway.specs.Replay.{waitingOf}
 use Rattle.gateway.proofs.Masks.{waiting-lt, waiting-in, waiting-off, waiting-out}

@@ -2,14 +2,12 @@ use borrow.Author.Needs.{needs}
 use native.Mathlib.Omega.{arith}
 use native.Mathlib.Nat.{le-antisymm}
 use mathlib.Core.Path.{_≡_, refl, sym, ap, _∙_}
-use mathlib.Core.List.{List}
 use mathlib.Core.Logic.{⊎-elim}
 use Prim.Native.Nat.{ℕ, _≤_, _-_, _+_, _*_}
 use lib.ListN.{length, getD, set, length-set}
-use Rattle.event.specs.declared.Gateway.{Gateway}
-use Rattle.event.specs.Codes.{Window, gatewayAt}
-use Rattle.gateway.specs.Effects.{gatewayAfter, gatewaysAfter, byteAfter, bytesAfter, waitsAfter}
-use Rattle.event.specs.Outcomes.{decisionOf}
+use Rattle.event.specs.Codes.{gatewayAt}
+use Rattle.effects.specs.Effects.{gatewaysAfter, bytesAfter, waitsAfter}
+use Rattle.effects.specs.Slots.{gatewayAfter, byteAfter}
 use Rattle.gateway.specs.Replay.{World, runOf, start}
 use Rattle.gateway.proofs.Turns.{world, turn, no-gateway, one-gateway, one-byte, same-gateways, same-bytes, same-waits, gateways-long, gateway-slot-below, byte-slot-below, part-is, part-long}
 use Rattle.gateway.proofs.Bounds.{closed-window, start-windows, met-windows, run-low}

@@ -1,12 +1,10 @@
 use native.Mathlib.Omega.{arith}
-use mathlib.Core.Path.{_≡_, refl, sym, ap, _∙_}
-use mathlib.Core.List.{List}
-use Prim.Native.Nat.{ℕ}
+use mathlib.Core.Path.{ap, _∙_}
 use Rattle.event.specs.declared.Head.{Head}
 use Rattle.event.specs.Outcomes.{decisionOf, outcomeOf}
 use Rattle.event.proofs.Reach.{decision-within}
-use Rattle.gateway.proofs.Acks.{ack-room}
-use Rattle.gateway.specs.Effects.{withAck, acknowledged}
+use Rattle.effects.proofs.Acks.{ack-room}
+use Rattle.effects.specs.Effects.{withAck}
 use borrow.Author.Needs.{needs}
 use Rattle.gateway.proofs.run.step.Statement.{statement}
 use Rattle.gateway.proofs.run.step.Tie as tie

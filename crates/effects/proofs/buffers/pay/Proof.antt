@@ -1,0 +1,71 @@
+use native.Mathlib.Omega.{arith}
+use native.Mathlib.Nat.{le-antisymm}
+use mathlib.Core.Path.{_≡_, refl, ap, _∙_}
+use mathlib.Core.List.{List}
+use mathlib.Core.Logic.{⊎-elim}
+use Prim.Native.Nat.{ℕ, _≤_, _-_, _*_}
+use lib.ListN.{length, getD}
+use Rattle.effects.specs.Effects.{paid, oneMore}
+use Rattle.effects.proofs.Groups.{paid-long, paid-turn, paid-skip, paid-later}
+use Rattle.effects.proofs.buffers.pay.Statement.{statement}
+use Rattle.effects.proofs.buffers.pay.Tie as tie
+
+abbrev Inv-loop : tie.InvT-loop
+Inv-loop group counts₀ threads groups t₀ counts t = (t ≤ threads) × (counts ≡ paid t groups group counts₀)
+
+abbrev μ-loop : tie.MeasureT-loop
+μ-loop group counts₀ threads groups t₀ counts t = threads - t
+
+loop-holds : tie.Need-loop-holds Inv-loop μ-loop
+unfolding paid
+loop-holds c = (omega arith, refl)
+
+array-read-if1 : tie.Need-array-read-if1 Inv-loop μ-loop
+array-read-if1 c = omega arith
+
+mul-one-more : tie.Need-mul-one-more Inv-loop μ-loop
+mul-one-more c = omega arith
+
+one-more-requires : tie.Need-one-more-requires Inv-loop μ-loop
+one-more-requires c κs = let a = c .before .before .before .before .before .before .args in
+    let l = c .before .before .before .loop in
+    let n : length (l .counts) ≡ length (a .counts .now) = ap length (l .inv .1) ∙ paid-long (a .setup .groups) (a .group) (a .counts .now) (l .t) in
+    let e : getD (l .counts) (2 * l .t) 0 ≡ getD (a .counts .now) (2 * l .t) 0 = ap (λ (x : List ℕ). getD x (2 * l .t) 0) (l .inv .1) ∙ paid-later (a .setup .groups) (a .group) (a .counts .now) (l .t) (2 * l .t) (omega arith) in
+    (omega arith, omega (arith, c .before .before .before .before .before .before .pre .2 (2 * l .t)))
+
+add-t : tie.Need-add-t Inv-loop μ-loop
+add-t c = omega arith
+
+loop-less : tie.Need-loop-less Inv-loop μ-loop
+loop-less c = omega arith
+
+loop-again : tie.Need-loop-again Inv-loop μ-loop
+loop-again c = let a = c .before .before .before .before .before .args in
+    let l = c .before .before .loop in (
+      omega arith,
+      ⊎-elim
+          (λ w. w .5 ∙ w .2 .ensures ∙ ap (λ (x : List ℕ). oneMore x (2 * l .t)) (l .inv .1) ∙ paid-turn (a .setup .groups) (a .group) (a .counts .now) (l .t) (w .0 .taken))
+          (λ w. w .1 ∙ l .inv .1 ∙ paid-skip (a .setup .groups) (a .group) (a .counts .now) (l .t) (w .0 .left)) (c .if1 .came),
+    )
+
+same-length : tie.Need-same-length Inv-loop μ-loop
+same-length c = let a = c .before .before .before .before .args in ap length (c .before .loop .inv .1) ∙ paid-long (a .setup .groups) (a .group) (a .counts .now) (c .before .loop .t)
+
+returns : tie.Need-returns Inv-loop μ-loop
+returns c = let a = c .before .before .before .before .args in c .before .loop .inv .1 ∙ ap (λ (n : ℕ). paid n (a .setup .groups) (a .group) (a .counts .now)) (le-antisymm (c .before .loop .inv .0) (c .loop-test .left))
+
+pub pay-spec : {M : Type 1} → statement M
+pay-spec =
+    tie.close
+    (tie.spec
+    Inv-loop
+    μ-loop
+    loop-holds
+    array-read-if1
+    mul-one-more
+    one-more-requires
+    add-t
+    loop-less
+    loop-again
+    same-length
+    returns)

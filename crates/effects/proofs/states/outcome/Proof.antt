@@ -1,0 +1,72 @@
+use Rattle.event.specs.Outcomes.{outcomeOf}
+use borrow.Author.Needs.{needs}
+use Rattle.effects.proofs.states.outcome.Statement.{statement}
+use Rattle.effects.proofs.states.outcome.Tie as tie
+
+enum-known-d : tie.Need-enum-known-d
+enum-known-d c = search needs
+
+enum-told : tie.Need-enum-told
+enum-told c = search needs
+
+enum-told-2 : tie.Need-enum-told-2
+enum-told-2 c = search needs
+
+enum-told-3 : tie.Need-enum-told-3
+enum-told-3 c = search needs
+
+enum-told-4 : tie.Need-enum-told-4
+enum-told-4 c = search needs
+
+enum-told-5 : tie.Need-enum-told-5
+enum-told-5 c = search needs
+
+enum-told-6 : tie.Need-enum-told-6
+enum-told-6 c = search needs
+
+returns : tie.Need-returns
+unfolding outcomeOf
+returns c = search needs
+
+returns-2 : tie.Need-returns-2
+unfolding outcomeOf
+returns-2 c = search needs
+
+returns-3 : tie.Need-returns-3
+unfolding outcomeOf
+returns-3 c = search needs
+
+returns-4 : tie.Need-returns-4
+unfolding outcomeOf
+returns-4 c = search needs
+
+returns-5 : tie.Need-returns-5
+unfolding outcomeOf
+returns-5 c = search needs
+
+returns-6 : tie.Need-returns-6
+unfolding outcomeOf
+returns-6 c = search needs
+
+returns-7 : tie.Need-returns-7
+unfolding outcomeOf
+returns-7 c = search needs
+
+pub outcome-spec : {M : Type 1} → statement M
+outcome-spec =
+    tie.close
+    (tie.spec
+    enum-known-d
+    enum-told
+    enum-told-2
+    enum-told-3
+    enum-told-4
+    enum-told-5
+    enum-told-6
+    returns
+    returns-2
+    returns-3
+    returns-4
+    returns-5
+    returns-6
+    returns-7)
