@@ -22,7 +22,7 @@ use Rattle.event.specs.Head as eventHead
 use Rattle.event.specs.Groups.{allWait}
 use Rattle.event.specs.Outcomes.{countedAck, endMalformed, forwardMalformed, openMalformed, ackMalformed, malformed, decidedOf, decisionOf, outcomeOf}
 use Rattle.gateway.specs.Recording.{groupsOf, setupOf, strayGroupOf, refusalOf}
-use Rattle.gateway.specs.Effects.{gatewaysAfter, bytesAfter, released, waitsAfter, notified, paid, countsAfter, forwarded, withAck}
+use Rattle.effects.specs.Effects.{gatewaysAfter, bytesAfter, released, waitsAfter, notified, paid, countsAfter, forwarded, withAck}
 use Rattle.gateway.specs.Replay.{stepOf, runOf, waitingOf, barriersOf, runWhole, replayOf}
 use Rattle.proved_examples.specs.Cases.{Each, table}
 

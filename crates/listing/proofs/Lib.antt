@@ -1,0 +1,5 @@
+pub mod Pieces
+pub mod Numbers
+pub mod Recorded
+pub mod Outcomes
+pub mod Isolation

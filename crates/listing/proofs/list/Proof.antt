@@ -1,0 +1,49 @@
+use native.Mathlib.Omega.{arith}
+use Rattle.listing.proofs.Pieces.{then, known-as}
+use Rattle.listing.proofs.Outcomes.{text-long, text-odd, text-even, from-start}
+use borrow.Author.Needs.{needs}
+use Rattle.listing.proofs.list.Statement.{statement}
+use Rattle.listing.proofs.list.Tie as tie
+
+slice-aggregate-put : tie.Need-slice-aggregate-put
+slice-aggregate-put c = search needs
+
+put-requires : tie.Need-put-requires
+put-requires c κs = search needs
+
+refused-requires : tie.Need-refused-requires
+refused-requires c κs = search needs
+
+returns : tie.Need-returns
+returns c =
+    let t = from-start _ _ _ _ (known-as (text-long _ (c .before .before .if1 .taken)) (then (omega arith) (c .before .before .before .put .ensures .0) (c .refused .ensures .0))) in
+    (t .0, t .1, omega arith)
+
+refused-requires-2 : tie.Need-refused-requires-2
+refused-requires-2 c κs = search needs
+
+returns-2 : tie.Need-returns-2
+returns-2 c =
+    let t = from-start _ _ _ _ (known-as (text-odd _ (c .before .before .before .if1 .left) (c .before .before .if2 .taken)) (then (omega arith) (c .before .before .before .before .put .ensures .0) (c .refused2 .ensures .0))) in
+    (t .0, t .1, omega arith)
+
+outcome-requires : tie.Need-outcome-requires
+outcome-requires c κs = search needs
+
+returns-3 : tie.Need-returns-3
+returns-3 c =
+    let t = from-start _ _ _ _ (known-as (text-even _ (c .before .before .before .if1 .left) (c .before .before .if2 .left)) (then (omega arith) (c .before .before .before .before .put .ensures .0) (c .outcome .ensures .0))) in
+    (t .0, t .1, omega arith)
+
+pub list-spec : {M : Type 1} → statement M
+list-spec =
+    tie.close
+    (tie.spec
+    slice-aggregate-put
+    put-requires
+    refused-requires
+    returns
+    refused-requires-2
+    returns-2
+    outcome-requires
+    returns-3)

@@ -1,0 +1,21 @@
+-- What the writers owe one another.
+use Prim.Native.Nat.{ℕ, zero, suc, _+_}
+use mathlib.Core.Path.{_≡_}
+use mathlib.Core.List.{List, [], _++_}
+use lib.ListN.{length, getD, take, drop}
+use Rattle.batch.specs.Records.{slot}
+use Rattle.listing.specs.Listing.{lineOf}
+
+-- a buffer with a piece from an index on
+abbrev pub over : List ℕ → ℕ → List ℕ → List ℕ
+over old from piece = take from old ++ piece ++ drop (from + length piece) old
+
+-- the piece stands there, every other byte is as it was, and the answer is the index after the piece
+pub record Wrote (old : List ℕ) (from : ℕ) (piece new : List ℕ) (r : ℕ) : Type 0 where
+  pub bytes : new ≡ over old from piece
+  pub next : r ≡ from + length piece
+
+-- the lines of the first n records; `recorded-lines` of proofs/Recorded.antt shows that these are the lines of the commands
+unfoldable pub recordLines : List ℕ → ℕ → List ℕ
+recordLines records zero = []
+recordLines records (suc i) = recordLines records i ++ lineOf (getD records (slot i 1) 0) (getD records (slot i 0) 0) (getD records (slot i 2) 0)
