@@ -1,11 +1,13 @@
 -- What is written is the text of the input. Assumes nothing.
-use mathlib.Core.Path.{_≡_, refl, sym, ap, subst, _∙_}
+use mathlib.Core.Path.{_≡_, refl, sym, ap, _∙_}
 use mathlib.Core.Bool.{Bool, cond}
 use mathlib.Core.List.{List, [], _++_}
 use Prim.Native.Nat.{ℕ, _+_, _*_, _/_, _%_, _≤_, _<_}
 use native.Mathlib.Omega.{arith}
-use lib.ListN.{length, set, drop}
+use lib.ListN.{length, set, drop, length-append}
+use lib.Seq.{length-take-le}
 use borrow.Author.Tests.{lt-ltb, le-ltb, eq-eqb, ne-eqb}
+use Rattle.io.specs.Counts.{Counts}
 use Rattle.words.specs.Dwords.{dwordsOf, dwordsIn}
 use Rattle.words.proofs.Dwords.{in-none, in-dwords, length-dwords}
 use Rattle.command.specs.Order.{Command}
@@ -99,6 +101,11 @@ module _ (input : List ℕ) where
     text-even q = simp (le-ltb 4096 (length input) h, eq-eqb (length input % 4) 0 q)
 
 -- a text from the start of the buffer on
-pub from-start : (t old new : List ℕ) (r : ℕ) → Wrote old 0 t new r → (new ≡ t ++ drop (length t) old) × (r ≡ length t)
-from-start t old new r w =
-    let z : 0 + length t ≡ length t = omega arith in (w .bytes ∙ ap (λ (k : ℕ). t ++ drop k old) z, w .next ∙ z)
+pub whole-text : (t old new : List ℕ) (r : ℕ) → Wrote old 0 t new r → (new ≡ t ++ drop (length t) old) × (r ≡ length t) × Counts r new
+whole-text t old new r w =
+    let z : 0 + length t ≡ length t = omega arith in
+    let n : new ≡ t ++ drop (length t) old = w .bytes ∙ ap (λ (k : ℕ). t ++ drop k old) z in
+    let c : r ≡ length t = w .next ∙ z in
+    let l : length new ≡ length t + length (drop (length t) old) = ap length n ∙ length-append t (drop (length t) old) in
+    let h : r ≤ length new = omega arith in
+    (n, c, (h, sym (length-take-le r new h)))
