@@ -18,7 +18,7 @@ use Rattle.batch.specs.Records.{written}
 use Rattle.batch.specs.Answers.{atStop, decided, decisionOf, recorded}
 use Rattle.batch.proofs.Counts.{passed-count}
 use Rattle.batch.proofs.Decisions.{by-refusal, by-success, fits-commands}
-use Rattle.listing.specs.Listing.{linesOf, acceptedLine, refusedLine, markLine, readText, batchText, textOf}
+use Rattle.listing.specs.Listing.{linesOf, acceptedLine, refusedLine, markLine, readText, batchText, oddText, textOf}
 use Rattle.listing.specs.Writing.{Wrote, recordLines}
 use Rattle.listing.proofs.Pieces.{then, known-as}
 use Rattle.listing.proofs.Recorded.{recorded-lines}
@@ -92,7 +92,7 @@ module _ (input : List ℕ) where
   text-long h = simp (lt-ltb 4096 (length input) h)
 
   module _ (h : length input ≤ 4096) where
-    pub text-odd : (length input % 4 ≡ 0 → ⊥) → markLine ++ refusedLine 17 (length input / 4) ≡ textOf input
+    pub text-odd : (length input % 4 ≡ 0 → ⊥) → markLine ++ oddText input ≡ textOf input
     unfolding textOf
     text-odd q = simp (le-ltb 4096 (length input) h, ne-eqb (length input % 4) 0 q)
 

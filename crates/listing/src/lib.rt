@@ -5,7 +5,7 @@ ghost use Prim.Native.Nat.{_+_, _*_, _≤_, _<_, min};
 ghost use lib.ListN.{length, take, drop};
 ghost use Rattle.io.specs.Counts.{Counts};
 ghost use Rattle.words.specs.Dwords.{dwordsOf};
-ghost use Rattle.listing.specs.Listing.{numberOf, nameOf, lineOf, refusedLine, acceptedLine, batchText, textOf};
+ghost use Rattle.listing.specs.Listing.{numberOf, nameOf, lineOf, refusedLine, acceptedLine, oddText, batchText, textOf};
 ghost use Rattle.listing.specs.Writing.{Wrote, recordLines};
 use batch::Scanned;
 use batch::decide;
@@ -96,6 +96,14 @@ fn refused(text: &mut [u8], at: usize, number: u64, place: u64) -> usize
     byte(text, d, b'\n')
 }
 
+// 17, for an input that is not a multiple of 4 bytes.
+fn odd(text: &mut [u8], at: usize, input: &[u8]) -> usize
+    requires { ⌜ at + 53 ≤ length (now text) ⌝ }
+    ensures { λ r. ⌜ Wrote (now (text .entry)) at (oddText (now (input .entry))) (now (text .exit)) r × (r ≤ at + 53) ⌝ }
+{
+    refused(text, at, 17, (input.len() / 4) as u64)
+}
+
 fn accepted(text: &mut [u8], at: usize, commands: u64, dwords: u64) -> usize
     requires { ⌜ at + 51 ≤ length (now text) ⌝ }
     ensures { λ r. ⌜ Wrote (now (text .entry)) at (acceptedLine commands dwords) (now (text .exit)) r × (r ≤ at + 51) ⌝ }
@@ -138,7 +146,7 @@ pub fn list(input: &[u8], text: &mut [u8; 49152]) -> usize
         return refused(text, at, 1, 0);
     }
     if input.len() % 4 != 0 {
-        return refused(text, at, 17, (input.len() / 4) as u64);
+        return odd(text, at, input);
     }
     outcome(text, at, input)
 }

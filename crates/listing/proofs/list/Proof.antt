@@ -17,11 +17,11 @@ refused-requires c κs = search needs
 returns : tie.Need-returns
 returns c = whole-text _ _ _ _ (known-as (text-long _ (c .before .before .if1 .taken)) (then (omega arith) (c .before .before .before .put .ensures .0) (c .refused .ensures .0)))
 
-refused-requires-2 : tie.Need-refused-requires-2
-refused-requires-2 c κs = search needs
+odd-requires : tie.Need-odd-requires
+odd-requires c κs = search needs
 
 returns-2 : tie.Need-returns-2
-returns-2 c = whole-text _ _ _ _ (known-as (text-odd _ (c .before .before .before .if1 .left) (c .before .before .if2 .taken)) (then (omega arith) (c .before .before .before .before .put .ensures .0) (c .refused2 .ensures .0)))
+returns-2 c = whole-text _ _ _ _ (known-as (text-odd _ (c .before .before .before .if1 .left) (c .before .before .if2 .taken)) (then (omega arith) (c .before .before .before .before .put .ensures .0) (c .odd .ensures .0)))
 
 outcome-requires : tie.Need-outcome-requires
 outcome-requires c κs = search needs
@@ -37,7 +37,7 @@ list-spec =
     put-requires
     refused-requires
     returns
-    refused-requires-2
+    odd-requires
     returns-2
     outcome-requires
     returns-3)
