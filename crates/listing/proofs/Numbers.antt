@@ -1,9 +1,9 @@
 -- Numbers and names as the code has them are those of the text. Assumes nothing.
-use mathlib.Core.Path.{_≡_, refl, sym, ap, ap₂, _∙_}
-use mathlib.Core.Bool.{Bool, true, false, cond}
+use mathlib.Core.Path.{_≡_, refl, ap, ap₂, _∙_}
+use mathlib.Core.Bool.{Bool, true, false}
 use mathlib.Core.List.{List, [], _∷_, _++_}
 use Prim.Native.Nat.{ℕ, zero, suc, _+_, _*_, _-_, _/_, _%_, _^_, _≤_, _<_, min}
-use native.Mathlib.Nat.{pow-suc, pow-le-pow-right, div-lt-iff-lt-mul, mod-eq-of-lt, zero-lt-suc, one-le-pow}
+use native.Mathlib.Nat.{pow-suc, pow-le-pow-right, one-le-pow}
 use native.Mathlib.Omega.{arith}
 use lib.ListN.{length, getD, take, drop}
 use lib.Seq.{take-length}
@@ -52,13 +52,15 @@ twenty n k f h = go (ltb 20 k) refl
 pub spelt : (n k : ℕ) (l : List ℕ) → k ≡ length (take k l) → k ≤ 20 → Fewest 10 1 n k → take k l ≡ digits 10 k n → take k (take k l) ≡ numberOf n
 spelt n k l e h f q = ap (λ (m : ℕ). take m (take k l)) e ∙ take-length (take k l) ∙ q ∙ decimal-is n k f h
 
--- the names in one row of letters
-pub named : (kind m : ℕ) → m ≡ min kind 7 →
-    take 3 (drop (3 * m) (78 ∷ 79 ∷ 80 ∷ 70 ∷ 76 ∷ 85 ∷ 69 ∷ 78 ∷ 68 ∷ 86 ∷ 70 ∷ 69 ∷ 67 ∷ 85 ∷ 82 ∷ 73 ∷ 68 ∷ 76 ∷ 83 ∷ 70 ∷ 76 ∷ 79 ∷ 66 ∷ 74 ∷ [])) ≡ nameOf kind
+-- the names in one row
+abbrev letters : List ℕ
+letters = 78 ∷ 79 ∷ 80 ∷ 70 ∷ 76 ∷ 85 ∷ 69 ∷ 78 ∷ 68 ∷ 86 ∷ 70 ∷ 69 ∷ 67 ∷ 85 ∷ 82 ∷ 73 ∷ 68 ∷ 76 ∷ 83 ∷ 70 ∷ 76 ∷ 79 ∷ 66 ∷ 74 ∷ []
+
+pub named : (kind m : ℕ) → m ≡ min kind 7 → take 3 (drop (3 * m) letters) ≡ nameOf kind
 unfolding nameOf
 named kind m e = go m (omega arith) ∙ ap (λ (i : ℕ). getD names i []) e
   where
-    go : (i : ℕ) → i ≤ 7 → take 3 (drop (3 * i) (78 ∷ 79 ∷ 80 ∷ 70 ∷ 76 ∷ 85 ∷ 69 ∷ 78 ∷ 68 ∷ 86 ∷ 70 ∷ 69 ∷ 67 ∷ 85 ∷ 82 ∷ 73 ∷ 68 ∷ 76 ∷ 83 ∷ 70 ∷ 76 ∷ 79 ∷ 66 ∷ 74 ∷ [])) ≡ getD names i []
+    go : (i : ℕ) → i ≤ 7 → take 3 (drop (3 * i) letters) ≡ getD names i []
     go zero h = refl
     go (suc zero) h = refl
     go (suc (suc zero)) h = refl

@@ -1,11 +1,13 @@
 -- What is written is the text of the input. Assumes nothing.
-use mathlib.Core.Path.{_≡_, refl, sym, ap, subst, _∙_}
+use mathlib.Core.Path.{_≡_, refl, sym, ap, _∙_}
 use mathlib.Core.Bool.{Bool, cond}
 use mathlib.Core.List.{List, [], _++_}
-use Prim.Native.Nat.{ℕ, _+_, _*_, _/_, _%_, _≤_, _<_}
+use Prim.Native.Nat.{ℕ, _+_, _*_, _%_, _≤_, _<_}
 use native.Mathlib.Omega.{arith}
-use lib.ListN.{length, set, drop}
+use lib.ListN.{length, set, drop, length-append}
+use lib.Seq.{length-take-le}
 use borrow.Author.Tests.{lt-ltb, le-ltb, eq-eqb, ne-eqb}
+use Rattle.io.specs.Counts.{Counts}
 use Rattle.words.specs.Dwords.{dwordsOf, dwordsIn}
 use Rattle.words.proofs.Dwords.{in-none, in-dwords, length-dwords}
 use Rattle.command.specs.Order.{Command}
@@ -16,7 +18,7 @@ use Rattle.batch.specs.Records.{written}
 use Rattle.batch.specs.Answers.{atStop, decided, decisionOf, recorded}
 use Rattle.batch.proofs.Counts.{passed-count}
 use Rattle.batch.proofs.Decisions.{by-refusal, by-success, fits-commands}
-use Rattle.listing.specs.Listing.{linesOf, acceptedLine, refusedLine, markLine, readText, batchText, textOf}
+use Rattle.listing.specs.Listing.{linesOf, acceptedLine, refusedLine, markLine, readText, batchText, oddText, textOf}
 use Rattle.listing.specs.Writing.{Wrote, recordLines}
 use Rattle.listing.proofs.Pieces.{then, known-as}
 use Rattle.listing.proofs.Recorded.{recorded-lines}
@@ -90,7 +92,7 @@ module _ (input : List ℕ) where
   text-long h = simp (lt-ltb 4096 (length input) h)
 
   module _ (h : length input ≤ 4096) where
-    pub text-odd : (length input % 4 ≡ 0 → ⊥) → markLine ++ refusedLine 17 (length input / 4) ≡ textOf input
+    pub text-odd : (length input % 4 ≡ 0 → ⊥) → markLine ++ oddText input ≡ textOf input
     unfolding textOf
     text-odd q = simp (le-ltb 4096 (length input) h, ne-eqb (length input % 4) 0 q)
 
@@ -99,6 +101,11 @@ module _ (input : List ℕ) where
     text-even q = simp (le-ltb 4096 (length input) h, eq-eqb (length input % 4) 0 q)
 
 -- a text from the start of the buffer on
-pub from-start : (t old new : List ℕ) (r : ℕ) → Wrote old 0 t new r → (new ≡ t ++ drop (length t) old) × (r ≡ length t)
-from-start t old new r w =
-    let z : 0 + length t ≡ length t = omega arith in (w .bytes ∙ ap (λ (k : ℕ). t ++ drop k old) z, w .next ∙ z)
+pub whole-text : (t old new : List ℕ) (r : ℕ) → Wrote old 0 t new r → (new ≡ t ++ drop (length t) old) × (r ≡ length t) × Counts r new
+whole-text t old new r w =
+    let z : 0 + length t ≡ length t = omega arith in
+    let n : new ≡ t ++ drop (length t) old = w .bytes ∙ ap (λ (k : ℕ). t ++ drop k old) z in
+    let c : r ≡ length t = w .next ∙ z in
+    let l : length new ≡ length t + length (drop (length t) old) = ap length n ∙ length-append t (drop (length t) old) in
+    let h : r ≤ length new = omega arith in
+    (n, c, (h, sym (length-take-le r new h)))

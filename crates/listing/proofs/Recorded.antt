@@ -1,13 +1,11 @@
 -- The lines out of the records are the lines of the commands. Assumes nothing.
-use mathlib.Core.Path.{_≡_, refl, sym, ap, ap₂, _∙_}
+use mathlib.Core.Path.{_≡_, refl, sym, ap, _∙_}
 use mathlib.Core.List.{List, [], _∷_, _++_, append-assoc, append-nil}
 use Prim.Native.Nat.{ℕ, zero, suc, _+_, _*_, _≤_, _<_}
 use native.Mathlib.Numerals.{add-one}
 use native.Mathlib.Omega.{arith}
 use lib.ListN.{length, getD, set, take}
 use lib.Seq.{take-length}
-use Rattle.words.specs.Dwords.{dwordsIn}
-use Rattle.words.proofs.Dwords.{in-dwords}
 use Rattle.command.specs.Order.{Command}
 use Rattle.command.specs.Record.{recordOf}
 use Rattle.batch.specs.Records.{slot, written}
@@ -15,7 +13,7 @@ use Rattle.batch.specs.Vfes.{noCommand}
 use Rattle.batch.proofs.Slots.{word-at}
 use Rattle.listing.specs.Listing.{lineOf, linesOf}
 use Rattle.listing.specs.Writing.{Wrote, recordLines}
-use Rattle.listing.proofs.Pieces.{then, known-as}
+use Rattle.listing.proofs.Pieces.{then}
 
 -- the turns of the loop over the records
 pub lines-again : (records o m n : List ℕ) (from i j k p q s : ℕ) → from ≤ length o → p ≡ slot i 1 → q ≡ slot i 0 → s ≡ slot i 2 → Wrote o from (recordLines records i) m j

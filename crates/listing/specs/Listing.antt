@@ -69,9 +69,13 @@ readText cs (stopped number place) = refusedLine number place
 unfoldable pub batchText : List ℕ → List ℕ
 batchText b = readText (readingOf 2048 b .passed) (readingOf 2048 b .stop)
 
--- "reads at most 4,096 bytes (more: 1) .. (that test precedes 17)". 17: "not a multiple of 4 bytes .. (place: its whole dwords)".
+-- 17: "not a multiple of 4 bytes .. (place: its whole dwords)"
+abbrev pub oddText : List ℕ → List ℕ
+oddText input = refusedLine 17 (length input / 4)
+
+-- "reads at most 4,096 bytes (more: 1) .. (that test precedes 17)"
 unfoldable pub textOf : List ℕ → List ℕ
 textOf input =
     markLine
     ++ cond (ltb 4096 (length input)) (refusedLine 1 0)
-    (cond (eqb (length input % 4) 0) (batchText (dwordsOf input)) (refusedLine 17 (length input / 4)))
+    (cond (eqb (length input % 4) 0) (batchText (dwordsOf input)) (oddText input))

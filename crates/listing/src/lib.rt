@@ -3,8 +3,9 @@ ghost use mathlib.Core.Path.{_≡_};
 ghost use mathlib.Core.List.{[], _∷_, _++_};
 ghost use Prim.Native.Nat.{_+_, _*_, _≤_, _<_, min};
 ghost use lib.ListN.{length, take, drop};
+ghost use Rattle.io.specs.Counts.{Counts};
 ghost use Rattle.words.specs.Dwords.{dwordsOf};
-ghost use Rattle.listing.specs.Listing.{numberOf, nameOf, lineOf, refusedLine, acceptedLine, batchText, textOf};
+ghost use Rattle.listing.specs.Listing.{numberOf, nameOf, lineOf, refusedLine, acceptedLine, oddText, batchText, textOf};
 ghost use Rattle.listing.specs.Writing.{Wrote, recordLines};
 use batch::Scanned;
 use batch::decide;
@@ -95,6 +96,14 @@ fn refused(text: &mut [u8], at: usize, number: u64, place: u64) -> usize
     byte(text, d, b'\n')
 }
 
+// 17, for an input that is not a multiple of 4 bytes.
+fn odd(text: &mut [u8], at: usize, input: &[u8]) -> usize
+    requires { ⌜ at + 53 ≤ length (now text) ⌝ }
+    ensures { λ r. ⌜ Wrote (now (text .entry)) at (oddText (now (input .entry))) (now (text .exit)) r × (r ≤ at + 53) ⌝ }
+{
+    refused(text, at, 17, (input.len() / 4) as u64)
+}
+
 fn accepted(text: &mut [u8], at: usize, commands: u64, dwords: u64) -> usize
     requires { ⌜ at + 51 ≤ length (now text) ⌝ }
     ensures { λ r. ⌜ Wrote (now (text .entry)) at (acceptedLine commands dwords) (now (text .exit)) r × (r ≤ at + 51) ⌝ }
@@ -130,14 +139,14 @@ fn outcome(text: &mut [u8], at: usize, input: &[u8]) -> usize
 
 // The text of an input of any length, and how many bytes it has. The rest of the buffer is as it was.
 pub fn list(input: &[u8], text: &mut [u8; 49152]) -> usize
-    ensures { λ r. ⌜ (now (text .exit) ≡ textOf (now (input .entry)) ++ drop (length (textOf (now (input .entry)))) (now (text .entry))) × (r ≡ length (textOf (now (input .entry)))) × (r ≤ 49152) ⌝ }
+    ensures { λ r. ⌜ (now (text .exit) ≡ textOf (now (input .entry)) ++ drop (length (textOf (now (input .entry)))) (now (text .entry))) × (r ≡ length (textOf (now (input .entry)))) × Counts r (now (text .exit)) ⌝ }
 {
     let at = put(text, 0, b"MPL 1\n", 0, 6);
     if 4096 < input.len() {
         return refused(text, at, 1, 0);
     }
     if input.len() % 4 != 0 {
-        return refused(text, at, 17, (input.len() / 4) as u64);
+        return odd(text, at, input);
     }
     outcome(text, at, input)
 }

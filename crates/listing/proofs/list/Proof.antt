@@ -1,6 +1,6 @@
 use native.Mathlib.Omega.{arith}
 use Rattle.listing.proofs.Pieces.{then, known-as}
-use Rattle.listing.proofs.Outcomes.{text-long, text-odd, text-even, from-start}
+use Rattle.listing.proofs.Outcomes.{text-long, text-odd, text-even, whole-text}
 use borrow.Author.Needs.{needs}
 use Rattle.listing.proofs.list.Statement.{statement}
 use Rattle.listing.proofs.list.Tie as tie
@@ -15,25 +15,19 @@ refused-requires : tie.Need-refused-requires
 refused-requires c κs = search needs
 
 returns : tie.Need-returns
-returns c =
-    let t = from-start _ _ _ _ (known-as (text-long _ (c .before .before .if1 .taken)) (then (omega arith) (c .before .before .before .put .ensures .0) (c .refused .ensures .0))) in
-    (t .0, t .1, omega arith)
+returns c = whole-text _ _ _ _ (known-as (text-long _ (c .before .before .if1 .taken)) (then (omega arith) (c .before .before .before .put .ensures .0) (c .refused .ensures .0)))
 
-refused-requires-2 : tie.Need-refused-requires-2
-refused-requires-2 c κs = search needs
+odd-requires : tie.Need-odd-requires
+odd-requires c κs = search needs
 
 returns-2 : tie.Need-returns-2
-returns-2 c =
-    let t = from-start _ _ _ _ (known-as (text-odd _ (c .before .before .before .if1 .left) (c .before .before .if2 .taken)) (then (omega arith) (c .before .before .before .before .put .ensures .0) (c .refused2 .ensures .0))) in
-    (t .0, t .1, omega arith)
+returns-2 c = whole-text _ _ _ _ (known-as (text-odd _ (c .before .before .before .if1 .left) (c .before .before .if2 .taken)) (then (omega arith) (c .before .before .before .before .put .ensures .0) (c .odd .ensures .0)))
 
 outcome-requires : tie.Need-outcome-requires
 outcome-requires c κs = search needs
 
 returns-3 : tie.Need-returns-3
-returns-3 c =
-    let t = from-start _ _ _ _ (known-as (text-even _ (c .before .before .before .if1 .left) (c .before .before .if2 .left)) (then (omega arith) (c .before .before .before .before .put .ensures .0) (c .outcome .ensures .0))) in
-    (t .0, t .1, omega arith)
+returns-3 c = whole-text _ _ _ _ (known-as (text-even _ (c .before .before .before .if1 .left) (c .before .before .if2 .left)) (then (omega arith) (c .before .before .before .before .put .ensures .0) (c .outcome .ensures .0)))
 
 pub list-spec : {M : Type 1} → statement M
 list-spec =
@@ -43,7 +37,7 @@ list-spec =
     put-requires
     refused-requires
     returns
-    refused-requires-2
+    odd-requires
     returns-2
     outcome-requires
     returns-3)
