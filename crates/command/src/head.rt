@@ -57,8 +57,8 @@ fn object_dwords(dw: &[u32], by: &[u8], at: usize, d: u32) -> [u32; 8]
         word(dw, by, at + 1),
         word(dw, by, at + 2),
         word(dw, by, at + 3),
-        word(dw, by, at + 4),
-        word(dw, by, at + 5),
+        word(dw, by, at + 4), // position
+        word(dw, by, at + 5), // colour and mask
         0,
         0,
     ]

@@ -33,9 +33,9 @@ fn padding(event: &[u8]) -> u32
     half(event, 10) + half(event, 12) + half(event, 14)
 }
 
-// The head of an event, of which it reads bytes 0 to 15.
+// The head of an event of 48 bytes, of which it reads bytes 0 to 15.
 pub fn head(event: &[u8]) -> Head
-    requires { ⌜ 16 ≤ length (now event) ⌝ }
+    requires { ⌜ 48 ≤ length (now event) ⌝ }
     ensures { λ r. ⌜ r ≡ headOf (now (event .entry)) ⌝ }
 {
     let flags = wide(event[2]);
