@@ -115,7 +115,7 @@ fn accepted(text: &mut [u8], at: usize, commands: u64, dwords: u64) -> usize
     byte(text, d, b'\n')
 }
 
-// The lines of a batch of whole dwords. There is room for a record to each of its dwords, so 10 never occurs.
+// The lines of a batch of whole dwords, at most 1,024 of 46 bytes and one of 51. There is room for a record to each dword, so 10 never occurs.
 fn outcome(text: &mut [u8], at: usize, input: &[u8]) -> usize
     requires { ⌜ (length (now input) ≤ 4096) × (at + 47155 ≤ length (now text)) ⌝ }
     ensures { λ r. ⌜ Wrote (now (text .entry)) at (batchText (dwordsOf (now (input .entry)))) (now (text .exit)) r × (r ≤ at + 47155) ⌝ }
@@ -137,7 +137,7 @@ fn outcome(text: &mut [u8], at: usize, input: &[u8]) -> usize
     }
 }
 
-// The text of an input of any length, and how many bytes it has. The rest of the buffer is as it was.
+// The text of an input of any length, and how many bytes it has: 47,161 at most. The rest of the buffer is as it was.
 pub fn list(input: &[u8], text: &mut [u8; 49152]) -> usize
     ensures { λ r. ⌜ (now (text .exit) ≡ textOf (now (input .entry)) ++ drop (length (textOf (now (input .entry)))) (now (text .entry))) × (r ≡ length (textOf (now (input .entry)))) × Counts r (now (text .exit)) ⌝ }
 {
