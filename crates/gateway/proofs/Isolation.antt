@@ -6,6 +6,7 @@ use Prim.Native.Nat.{ℕ, zero, suc, _+_, _*_, _-_, _/_, _%_, _^_, _≤_, _<_}
 use native.Mathlib.Omega.{arith}
 use lib.Dec.{ltb, eqb}
 use lib.ListN.{length, getD, set, take, drop, replicate, length-set, length-take, length-drop}
+use lib.Pow.{pow-pos}
 use lib.Seq.{getD-take, getD-drop, getD-set-same, getD-set-other, set-out, ext-getD}
 use borrow.Author.Tests.{ltb-true, ltb-false, eqb-true, eqb-false}
 use Rattle.laws.specs.Find.{findFirst}
@@ -28,7 +29,7 @@ use Rattle.effects.specs.declared.State.{State}
 use Rattle.gateway.specs.Recording.{threadsOf, bypassOf, eventsOf, strayGroup, strayGroupOf, groupsOf, setupOf, firstEvent, eventAt, refusalOf}
 use Rattle.effects.specs.Effects.{forwarded, acknowledged, ackPlace, withAck, countsAfter}
 use Rattle.gateway.specs.Replay.{stateAfter, World, decisionIn, stepOf, runOf, begun, Replay, refusedAnswer, endAnswer, ended}
-use Rattle.gateway.specs.Claims.{end, forwardPlace}
+use Rattle.gateway.specs.Claims.{end, met, headAt, outcomeAt, forwardPlace}
 use Rattle.gateway.specs.Isolation.{Own, Data, Alike, Outside, Landed, Isolated}
 use Rattle.gateway.proofs.Accepted.{refused-whole}
 use Rattle.gateway.proofs.Bounds.{Windows, start-windows, run-windows}
@@ -359,3 +360,16 @@ module _ (n : ℕ) (rec rec′ registers registers′ counts outcomes : List ℕ
   -- What is forwarded to n shows nowhere but in n's registers, and there only where a forward landed.
   pub isolated : Isolated n rec rec′ registers registers′ counts outcomes
   isolated = by-test (eqb number 0) (λ q. replayed-both (eqb-true number 0 q)) (λ q. refused-both (eqb-false number 0 q))
+
+-- ---- the words mean what they say
+
+-- an accepted forward lands on each of its 2^code bytes, of which there is at least one
+module _ (n : ℕ) (rec registers counts outcomes : List ℕ) (passed : refusalOf rec (length registers) (length counts) (length outcomes) ≡ 0) where
+  pub lands : (i : ℕ) → i < eventsOf rec → headAt rec registers counts outcomes i .kind ≡ 2 → headAt rec registers counts outcomes i .target ≡ n → outcomeAt rec registers counts outcomes i ≡ 0
+      → (j : ℕ) → j < 2 ^ headAt rec registers counts outcomes i .code
+      → Landed n rec registers counts outcomes (forwardPlace (setupOf rec) (headAt rec registers counts outcomes i) (met rec registers counts outcomes i .state) + j)
+  lands i b k t o j h =
+      record { event = i; accepted = passed; one = b; kind = k; names = t; outcome = o; from = omega arith; to = omega arith }
+
+pub some-byte : (code : ℕ) → 0 < 2 ^ code
+some-byte code = pow-pos code
