@@ -1,2 +1,1 @@
 pub mod Isolation
-pub mod Guards

@@ -1,5 +1,7 @@
 -- Demand 3, one statement of two halves, over the definitions that the contracts cite. The terms are those of document 01, "What each entry owes
--- its caller"; each half's words stand beside its definitions: batch/specs/Isolation.antt and gateway/specs/Isolation.antt.
+-- its caller"; each half's words stand beside its definitions: batch/specs/Isolation.antt and gateway/specs/Isolation.antt. Laws guard the
+-- words: `inline-wide` (every dword from 6 on of an OBJECT passed is inline data), `accepted-commands` (an accepted batch passes all its
+-- commands), `lands` and `some-byte` (every accepted forward lands on its 2^code bytes, one at least).
 use mathlib.Core.Path.{_≡_}
 use mathlib.Core.List.{List, _++_}
 use Prim.Native.Nat.{ℕ, _<_}
