@@ -18,27 +18,31 @@ use Rattle.batch.specs.Reading.{Stop, ended, stopped, Whole, readingOf}
 use Rattle.batch.specs.Records.{slot, putWords, written}
 use Rattle.batch.specs.Answers.{atStop, decided, decisionOf, refusedAnswer, acceptedAnswer, recorded, recordedIn, answerOf, recordsOf, bytesAnswerOf, bytesRecordsOf, scanned, scanOf}
 
+-- a function of what is made of a decision
+module _ {A B : Type 0} (f : A → B) (refused accepted : ℕ → ℕ → A) where
+  map-cond : (t : Bool) (x y : A) → f (cond t x y) ≡ cond t (f x) (f y)
+  map-cond true x y = refl
+  map-cond false x y = refl
+
+  map-stop : (room n : ℕ) (s : Stop) → f (atStop refused accepted room n s) ≡ atStop (λ m p. f (refused m p)) (λ c d. f (accepted c d)) room n s
+  map-stop room n (stopped m p) = refl
+  map-stop room n (ended d) = map-cond (ltb room (16 * n)) (refused 10 d) (accepted n d)
+
+  pub map-decided : (capacity room : ℕ) (b : List ℕ) → f (decided refused accepted capacity room b) ≡ decided (λ m p. f (refused m p)) (λ c d. f (accepted c d)) capacity room b
+  unfolding decided
+  map-decided capacity room b =
+      let n = length (readingOf capacity b .passed) in
+      let s = readingOf capacity b .stop in
+      map-cond (ltb 16384 (length b)) (refused 1 0) (atStop refused accepted room n s) ∙ ap (cond (ltb 16384 (length b)) (f (refused 1 0))) (map-stop room n s)
+
 -- what is made of a decision, from the decision
 module _ {A : Type 0} (refused accepted : ℕ → ℕ → A) where
   abbrev made : Scanned → A
   made (Stopped m p) = refused m p
   made (Ended c d o) = accepted c d
 
-  made-cond : (t : Bool) (x y : Scanned) → made (cond t x y) ≡ cond t (made x) (made y)
-  made-cond true x y = refl
-  made-cond false x y = refl
-
-  made-stop : (room n o : ℕ) (s : Stop) → made (atStop Stopped (λ c d. Ended c d o) room n s) ≡ atStop refused accepted room n s
-  made-stop room n o (stopped m p) = refl
-  made-stop room n o (ended d) = made-cond (ltb room (16 * n)) (Stopped 10 d) (Ended n d o)
-
   made-decided : (capacity room : ℕ) (b : List ℕ) → made (decisionOf capacity room b) ≡ decided refused accepted capacity room b
-  unfolding decided
-  made-decided capacity room b =
-      let n = length (readingOf capacity b .passed) in
-      let o = objectCount (readingOf capacity b .passed) in
-      let s = readingOf capacity b .stop in
-      made-cond (ltb 16384 (length b)) (Stopped 1 0) (atStop Stopped (λ c d. Ended c d o) room n s) ∙ ap (cond (ltb 16384 (length b)) (refused 1 0)) (made-stop room n o s)
+  made-decided capacity room b = map-decided made Stopped (λ c d. Ended c d (objectCount (readingOf capacity b .passed))) capacity room b
 
   module _ (capacity room : ℕ) (b : List ℕ) (w : Scanned) (ew : w ≡ decisionOf capacity room b) where
     made-of : (v : Scanned) → w ≡ v → made v ≡ decided refused accepted capacity room b
@@ -145,23 +149,6 @@ module _ (capacity room : ℕ) (b : List ℕ) (w : Scanned) (ew : w ≡ decision
 pub ruleset answers = (by-refusal, by-success)
 
 pub ruleset kept = (kept-refused, kept-recorded)
-
--- a function of what is made of a decision
-module _ {A B : Type 0} (f : A → B) (refused accepted : ℕ → ℕ → A) where
-  map-cond : (t : Bool) (x y : A) → f (cond t x y) ≡ cond t (f x) (f y)
-  map-cond true x y = refl
-  map-cond false x y = refl
-
-  map-stop : (room n : ℕ) (s : Stop) → f (atStop refused accepted room n s) ≡ atStop (λ m p. f (refused m p)) (λ c d. f (accepted c d)) room n s
-  map-stop room n (stopped m p) = refl
-  map-stop room n (ended d) = map-cond (ltb room (16 * n)) (refused 10 d) (accepted n d)
-
-  pub map-decided : (capacity room : ℕ) (b : List ℕ) → f (decided refused accepted capacity room b) ≡ decided (λ m p. f (refused m p)) (λ c d. f (accepted c d)) capacity room b
-  unfolding decided
-  map-decided capacity room b =
-      let n = length (readingOf capacity b .passed) in
-      let s = readingOf capacity b .stop in
-      map-cond (ltb 16384 (length b)) (refused 1 0) (atStop refused accepted room n s) ∙ ap (cond (ltb 16384 (length b)) (f (refused 1 0))) (map-stop room n s)
 
 -- two buffers that agree word by word get the same records
 module _ {B C : Type 0} (put : B → ℕ → ℕ → B) (put′ : C → ℕ → ℕ → C) (f : B → C) (h : (r : B) (k v : ℕ) → f (put r k v) ≡ put′ (f r) k v) where

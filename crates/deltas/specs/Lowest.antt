@@ -1,4 +1,4 @@
--- The lowest delta by the code's numbers: a mask of eight, and VFE dwords 6 and 7. `lowest-at` of proofs/Lowest.antt shows that it is
+-- The lowest delta by the code's numbers: a mask of eight, and VFE dwords 6 and 7. `lowest-at` of scoreboard/proofs/Lowest.antt shows that it is
 -- the lowest delta of the objects.
 use Prim.Native.Nat.{ℕ, _+_}
 use mathlib.Core.Bool.{Bool, _&&_}
@@ -14,6 +14,6 @@ leadsAt x y mask d6 d7 jx jy i = bitSet i mask && meetsAt x y (deltaX d6 d7 i) (
 unfoldable pub lowestAt : ℕ → ℕ → ℕ → ℕ → ℕ → ℕ → ℕ → ℕ
 lowestAt x y mask d6 d7 jx jy = findFirst 8 (leadsAt x y mask d6 d7 jx jy)
 
--- can a delta lead from one coordinate to another? It is from -8 to 7. `far-none` of proofs/Far.antt shows that none leads further.
+-- can a delta lead from one coordinate to another? It is from -8 to 7. `far-x` and `far-y` of proofs/Far.antt show that none leads further.
 unfoldable pub nearAt : ℕ → ℕ → Bool
 nearAt x to = leb x (to + 8) && ltb to (x + 8)

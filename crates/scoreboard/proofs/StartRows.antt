@@ -15,6 +15,7 @@ use Rattle.scoreboard.specs.declared.Judged.{Judged}
 use Rattle.scoreboard.specs.Objects.{Object, objectWith}
 use Rattle.scoreboard.specs.Run.{objectAt, stateAt, lowestWaiting, verdict, verdictOf}
 use Rattle.scoreboard.specs.Recorded.{objectRecorded, objectsRecorded, Spotted, Holds, stallsAt}
+use Rattle.scoreboard.proofs.Waits.{right}
 use Rattle.scoreboard.specs.Starts.{waitVerdict, startVerdict, waitingAt, unfinishedAt, nearestOf, judged, Sound}
 
 pub nearest-last : (c : Cursors) (k : ℕ) → c .last .object ≤ k → c .last ≡ nearestOf c k
@@ -62,10 +63,6 @@ min-below w k = go (ltb w k) refl
     go : (t : Bool) → ltb w k ≡ t → ltb (min w k) k ≡ ltb w k
     go true e = let l : w < k = ltb-true w k e in let m : min w k ≡ w = omega arith in ap (λ (x : ℕ). ltb x k) m
     go false e = let l : k ≤ w = ltb-false w k e in let m : k ≤ min w k = omega arith in le-ltb (min w k) k m ∙ sym e
-
-right : (a b : Bool) → a && b ≡ true → b ≡ true
-right true b e = e
-right false b e = absurd (subst T (sym e) tt)
 
 pub stalled-before : (w k : ℕ) (s t : Bool) → t ≡ (s && ltb w k) → t ≡ true → w < k
 stalled-before w k s t e q = ltb-true w k (right s (ltb w k) (sym e ∙ q))

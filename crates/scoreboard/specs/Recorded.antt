@@ -1,4 +1,4 @@
--- Objects as the code has them: out of the records. `recorded-objects` of proofs/Recorded.antt shows that these are the objects of the batch.
+-- Objects as the code has them: out of the records. `recorded-objects` of proofs/RecordedObjects.antt shows that these are the objects of the batch.
 -- Below, d are the dwords of the record buffer, which holds n records.
 use Prim.Native.Nat.{ℕ, zero, suc, _+_, _-_, _<_, _≤_}
 use mathlib.Core.Path.{_≡_}

@@ -1,5 +1,5 @@
--- A start as the code judges it: rows 24 and 25 in two steps, and what it keeps from one start to the next. `start-verdict` of
--- proofs/Starts.antt shows that the steps are the rows.
+-- A start as the code judges it: rows 24 and 25 in two steps, and what it keeps from one start to the next. `row-start` of
+-- proofs/StartRows.antt shows that the steps are the rows.
 use Prim.Native.Nat.{ℕ}
 use mathlib.Core.Bool.{Bool, cond, _&&_}
 use mathlib.Core.List.{List}
