@@ -1,9 +1,12 @@
 /*
- * The checker of media command batches, of runs and of gateway recordings, for C. Link libmpl.a (`rt staticlib mpl`).
+ * The checker of media command batches, of runs and of gateway recordings, for C on x86-64. Link libmpl.a (`rt staticlib mpl`); it needs
+ * memcpy and memset, and uses SSE registers. shim/shim.c is an example.
  *
- * What a caller owes: each pointer is valid for its length, in elements; it may be null only where that length is 0; dwords are
- * aligned; no two buffers overlap, and nobody else writes them during the call. In return no function here stops, allocates,
- * keeps a pointer, or reads or writes outside what it was lent, whatever the batch, run or recording holds.
+ * What a caller owes: each pointer is valid for its length, in elements; it may be null only where that length is 0; pointers to uint32_t
+ * are aligned, those to bytes need not be; no two buffers of a call overlap; during the call nobody else writes them, or reads those that
+ * are lent for writing. The answer is about the bytes as they stood then: a batch that is written afterwards is one not checked.
+ * In return every call ends, and none allocates, keeps a pointer or a state, or reads or writes outside what it was lent, whatever the
+ * batch, run or recording holds. What the buffers lent for writing hold before a call changes no answer.
  */
 #ifndef MPL_H
 #define MPL_H
@@ -15,32 +18,41 @@
 extern "C" {
 #endif
 
-/* Why a batch is turned away. A place counts dwords from the start of the batch. */
+/*
+ * Why a batch is turned away. Asked in this order: 17; 1; command by command 3 to 9, the lowest number of the first faulty one; 2 where the
+ * batch ends without END; 10. A place counts dwords from the start of the batch; "the command" is its first dword.
+ */
 enum {
     MPL_ACCEPTED = 0,
     MPL_TOO_LONG = 1,           /* over 16,384 dwords; place 0 */
     MPL_NO_END = 2,             /* slice used up before END; place: its length */
-    MPL_UNKNOWN_COMMAND = 3,    /* header's type and opcodes not in the table; place: the command */
-    MPL_LENGTH_FIELD = 4,       /* length field not allowed; place: the command */
+    MPL_UNKNOWN_COMMAND = 3,    /* header's type and opcodes of none of the kinds below; place: the command */
+    MPL_LENGTH_FIELD = 4,       /* length field not the kind's own, or an OBJECT's under 4; place: the command */
     MPL_RUNS_PAST = 5,          /* command runs past the slice; place: the command */
     MPL_MUST_BE_ZERO = 6,       /* a must-be-zero bit is set; place: the first such dword */
     MPL_LOAD_FIELDS = 7,        /* load length or address not a multiple of 32, or descriptor length outside 32 to 2,048; place: the first such dword */
-    MPL_ORDER = 8,              /* commands out of order, or an index not below the count last loaded; place: the command */
-    MPL_TOO_LARGE = 9,          /* a VFE exceeds the capacity, or a CURBE load the CURBE size in force; place: the command */
+    MPL_ORDER = 8,              /* order, below; place: the command */
+    MPL_TOO_LARGE = 9,          /* VFE: entries x entry size + CURBE size over capacity; CURBE load: length over 32 x CURBE size in force; place: the command */
     MPL_RECORD_ROOM = 10,       /* all commands pass, but the record buffer has fewer than 16 words per command; place: dwords read */
     MPL_PART_OF_A_DWORD = 17    /* byte entries only, before all others: not a multiple of 4 bytes; place: whole dwords */
 };
 
+/*
+ * Order, number 8: CURBE load, descriptor load and OBJECT need an earlier VFE. A VFE needs that none of VFE, CURBE load, descriptor load
+ * and OBJECT stands since the last MI_FLUSH or the start; a descriptor load, that no OBJECT stands since the last MI_FLUSH or state flush.
+ * An OBJECT's descriptor index is below the count last loaded.
+ */
+
 /* Kinds of command, in word 0 of a record. */
 enum {
-    MPL_NO_OP = 0,
-    MPL_FLUSH = 1,
-    MPL_END = 2,
-    MPL_VFE_STATE = 3,
-    MPL_CURBE_LOAD = 4,
-    MPL_DESCRIPTOR_LOAD = 5,
-    MPL_STATE_FLUSH = 6,
-    MPL_OBJECT = 7
+    MPL_NO_OP = 0,              /* 0x00000000, the whole dword */
+    MPL_FLUSH = 1,              /* 0x02000000, MI_FLUSH, the whole dword */
+    MPL_END = 2,                /* 0x05000000, the whole dword; dwords after it are not read */
+    MPL_VFE_STATE = 3,          /* 0x70000006, 8 dwords */
+    MPL_CURBE_LOAD = 4,         /* 0x70010002, 4 dwords */
+    MPL_DESCRIPTOR_LOAD = 5,    /* 0x70020002, 4 dwords */
+    MPL_STATE_FLUSH = 6,        /* 0x70040000, 2 dwords */
+    MPL_OBJECT = 7              /* 0x7100nnnn, nnnn from 4, nnnn + 2 dwords */
 };
 
 enum {
@@ -93,25 +105,30 @@ struct mpl_batch {
 };
 
 /*
- * May the chip read this batch? capacity is the lent URB capacity in 256-bit rows.
+ * May the chip read this batch? Lent: the batch, to read; `records`, to write, 16 words a command (16 for each dword of the batch are
+ * always enough). capacity is the lent URB capacity in 256-bit rows.
  * Accepted: `commands` records of 16 words stand in `records`, in the batch's order; `dwords` were read, END included; every other
  * word of `records` is as it was. Refused, with 1 to 10: `records` is as it was, all of it. The batch is never written.
  */
 struct mpl_batch mpl_check_batch_dwords(const uint32_t *batch, size_t batch_len, uint32_t capacity, uint32_t *records, size_t records_len);
 
 /*
- * The same over little-endian bytes: records of 64 bytes, their words little-endian; also 17, on which `records`
+ * The same over little-endian bytes, lengths in bytes: records of 64 bytes, their words little-endian; also 17, on which `records`
  * is as it was too. A tail of `records` under 64 bytes is no fault.
  */
 struct mpl_batch mpl_check_batch(const uint8_t *batch, size_t batch_len, uint32_t capacity, uint8_t *records, size_t records_len);
 
-/* Why a run is turned away; 1 to 10 and 17 are the batch's, 17 also the run's. */
+/*
+ * Why a run is turned away; 1 to 10 and 17 are the batch's, 17 also the run's. 22, 24 and 25 are of a start, 23 of a finish; "it" is the
+ * object started. An object uses a scoreboard where its own bit and its VFE's enable are both set. It waits for each object before it in
+ * the batch that is unfinished, uses a scoreboard, has its colour, and whose X and Y are its own plus a delta in play, as whole numbers.
+ */
 enum {
     MPL_FEW_STATES = 20,        /* fewer state bytes than objects; place 0 */
-    MPL_NO_SUCH_OBJECT = 21,
+    MPL_NO_SUCH_OBJECT = 21,    /* the batch has no object of that number */
     MPL_NOT_WAITING = 22,       /* start of one not waiting */
     MPL_NOT_RUNNING = 23,       /* finish of one not running */
-    MPL_STALLS = 24,            /* it uses a scoreboard of type 0 and an earlier object is in state 0; names the lowest */
+    MPL_STALLS = 24,            /* it uses a scoreboard of type 0 (stalling) and an object before it is in state 0; names the lowest */
     MPL_WAITS = 25              /* it waits; names the lowest object that it waits for, and the lowest delta at it */
 };
 
@@ -133,39 +150,43 @@ struct mpl_order {
 
 /*
  * Is the order in which the batch's objects ran one that the scoreboard permits? A run is a list of numbers: 2k starts object k, 2k + 1
- * finishes it. The batch is checked first, as above.
- * 0 and 21 to 25: `records` holds the batch's records, as mpl_check_batch_dwords leaves them; states[k] is the state of object k after
- * the last event that passed; state bytes past the objects are as they were.
+ * finishes it. Lent: batch and run, to read; `records`, as above, and `states`, to write, a byte an object (one for each 6 dwords of the
+ * batch is always enough). The batch is checked first, as above.
+ * 0 and 21 to 25: `records` holds the batch's records, as mpl_check_batch_dwords leaves them; states[k] is the state of object k, which
+ * begins MPL_WAITING, after the last event that passed; state bytes past the objects are as they were.
  * 1 to 10 and 20: `records` and `states` are as they were, all of them. Batch and run are never written.
  */
 struct mpl_order mpl_check_order_dwords(const uint32_t *batch, size_t batch_len, uint32_t capacity, const uint32_t *run, size_t run_len,
                                         uint32_t *records, size_t records_len, uint8_t *states, size_t states_len);
 
-/* The same over little-endian bytes; also 17, of the batch, then of the run, before all others, on which nothing is changed either. */
+/*
+ * The same over little-endian bytes, lengths in bytes; also 17, of the batch, then of the run, before all others, on which nothing is
+ * changed either.
+ */
 struct mpl_order mpl_check_order(const uint8_t *batch, size_t batch_len, uint32_t capacity, const uint8_t *run, size_t run_len,
                                  uint8_t *records, size_t records_len, uint8_t *states, size_t states_len);
 
-/* Why a whole recording is turned away. */
+/* Why a whole recording is turned away: the lowest that holds. */
 enum {
     MPL_RECORDING_MARK = 11,    /* under 10 bytes, or wrong mark */
-    MPL_RECORDING_VERSION = 12,
+    MPL_RECORDING_VERSION = 12, /* not 1 */
     MPL_RECORDING_HEADER = 13,  /* threads not 1 to 16, bypass over 1, or byte 9 not zero */
     MPL_RECORDING_LENGTH = 14,  /* length is not 10 + threads + 48 x events */
     MPL_RECORDING_GROUP = 15,   /* a group byte neither 0 to 15 nor 255 */
     MPL_RECORDING_ROOM = 16     /* registers not 4,096 bytes a thread, counts not two a thread, or fewer outcome bytes than events */
 };
 
-/* Outcome bytes, one for each event; 0: accepted. */
+/* Outcome bytes, one for each event: 0 accepted, else the lowest that holds. */
 enum {
-    MPL_EVENT_MALFORMED = 31,
+    MPL_EVENT_MALFORMED = 31,   /* kind, sender, flags, a code, a register, an offset, a barrier or bytes 10-15 out of range */
     MPL_EVENT_NOT_SERVED = 32,  /* kind 3 or 6; kind 0 or 1 under bypass */
     MPL_OPEN_PAST_END = 33,     /* base + 2^size code over 128 registers */
     MPL_NO_RECIPIENT = 34,      /* forward: recipient not a thread */
-    MPL_GATEWAY_CLOSED = 35,
-    MPL_KEY_DIFFERS = 36,
-    MPL_PAST_WINDOW = 37,       /* offset + 2^length code bytes over the window */
+    MPL_GATEWAY_CLOSED = 35,    /* forward: the recipient's */
+    MPL_KEY_DIFFERS = 36,       /* forward: from the recipient's */
+    MPL_PAST_WINDOW = 37,       /* forward: offset + 2^length code bytes over the window */
     MPL_NO_GROUP = 38,          /* barrier: sender has no group */
-    MPL_WAITS_ALREADY = 39
+    MPL_WAITS_ALREADY = 39      /* barrier: sender does */
 };
 
 enum {
@@ -192,8 +213,8 @@ struct mpl_replayed {
 };
 
 /*
- * What did each thread's messages do? Of T threads and E events, `registers` is 4,096 bytes a thread, thread 0's first, `counts` two numbers
- * a thread, `outcomes` at least one byte an event.
+ * What did each thread's messages do? Lent: the recording, to read; to write, of T threads (byte 5) and E events (bytes 7 and 8, low first),
+ * `registers`, exactly 4,096 bytes a thread, thread 0's first, `counts`, exactly two numbers a thread, `outcomes`, at least one byte an event.
  * 0: `registers` holds what it held, with the accepted forwards and the acknowledgements written in the events' order; `counts` holds the
  * notifications, counted from 0; outcomes[i] is event i's; outcome bytes past the events are as they were.
  * 11 to 16: registers, counts and outcomes are as they were, all of them. The recording is never written.
