@@ -1,0 +1,235 @@
+/*
+ * The shim as a program: lends buffers, asks both checks about a batch and a run, and says what their numbers and places mean.
+ * Exit status: 0 both accept; 1 one refuses; 2 they were not asked, and standard error says why.
+ */
+#include <errno.h>
+#include <inttypes.h>
+#include <stdbool.h>
+#include <stdio.h>
+#include <stdlib.h>
+#include <string.h>
+
+#include "mpl.h"
+
+enum { ACCEPTED = 0, REFUSED = 1, NOT_ASKED = 2 };
+
+/* More than any batch that is accepted, so that it is the library that refuses a long one. */
+enum { FILE_BYTES_MOST = 1 << 20 };
+
+static const char usage[] = "usage: mpl_shim BATCH RUN [CAPACITY]\n"
+                            "BATCH, RUN: files of little-endian dwords, at most 1 MiB; CAPACITY: of the URB, in 256-bit rows (2048)\n";
+static const uint32_t usual_capacity = 2048;
+
+/* What each number but 0 means, and what its place is. */
+struct meaning {
+    uint64_t number;
+    const char *words, *place;
+};
+
+#define COMMAND "the command's first dword"
+#define EVENT "the event's position in the run"
+
+static const struct meaning meanings[] = {
+    {MPL_TOO_LONG, "over 16,384 dwords", "always 0"},
+    {MPL_NO_END, "batch used up before END", "its dwords"},
+    {MPL_UNKNOWN_COMMAND, "header's type and opcodes not in the table", COMMAND},
+    {MPL_LENGTH_FIELD, "length field not allowed", COMMAND},
+    {MPL_RUNS_PAST, "command runs past the batch", COMMAND},
+    {MPL_MUST_BE_ZERO, "a must-be-zero bit is set", "the first such dword"},
+    {MPL_LOAD_FIELDS, "load length or address not a multiple of 32, or descriptor length outside 32 to 2,048", "the first such dword"},
+    {MPL_ORDER, "command out of order, or descriptor index not below the count last loaded", COMMAND},
+    {MPL_TOO_LARGE, "a VFE exceeds the capacity, or a CURBE load the CURBE size in force", COMMAND},
+    {MPL_RECORD_ROOM, "fewer than 16 words of record buffer per command", "dwords read"},
+    {MPL_PART_OF_A_DWORD, "batch not a multiple of 4 bytes", "its whole dwords"},
+    {MPL_FEW_STATES, "fewer state bytes than objects", "always 0"},
+    {MPL_NO_SUCH_OBJECT, "no such object", EVENT},
+    {MPL_NOT_WAITING, "start of an object that is not waiting", EVENT},
+    {MPL_NOT_RUNNING, "finish of an object that is not running", EVENT},
+    {MPL_STALLS, "start of an object that uses a scoreboard of type 0, and an earlier one is in state 0", EVENT},
+    {MPL_WAITS, "start of an object that waits", EVENT},
+};
+
+/* 17 is the one number that two files can have. */
+static const struct meaning part_of_run = {MPL_PART_OF_A_DWORD, "run not a multiple of 4 bytes", "its whole dwords"};
+
+static const struct meaning unknown = {0, "a number that this shim does not know", "unknown"};
+
+static const struct meaning *meaning_of(uint64_t number)
+{
+    for (size_t i = 0; i < sizeof meanings / sizeof meanings[0]; i++)
+        if (meanings[i].number == number)
+            return &meanings[i];
+    return &unknown;
+}
+
+static bool complain(const char *what, const char *why)
+{
+    fprintf(stderr, "mpl_shim: %s: %s\n", what, why);
+    return false;
+}
+
+struct buffer {
+    uint8_t *bytes;
+    size_t len;
+};
+
+/*
+ * Exactly len bytes, so that valgrind sees a step outside them; not cleared, so that it sees one used before it is set. With length 0 the
+ * pointer is null, as mpl.h permits.
+ */
+static bool allocate(struct buffer *buffer, size_t len)
+{
+    buffer->len = len;
+    buffer->bytes = len > 0 ? malloc(len) : NULL;
+    return len == 0 || buffer->bytes != NULL || complain("memory", "ran out");
+}
+
+static bool read_file(const char *path, struct buffer *file)
+{
+    static uint8_t scratch[FILE_BYTES_MOST + 1]; /* the last byte tells a file that is too large */
+    FILE *in = fopen(path, "rb");
+    if (in == NULL)
+        return complain(path, strerror(errno));
+    size_t len = fread(scratch, 1, sizeof scratch, in);
+    bool failed = ferror(in) != 0;
+    fclose(in);
+    if (failed)
+        return complain(path, "cannot be read");
+    if (len > FILE_BYTES_MOST)
+        return complain(path, "over 1 MiB");
+    if (!allocate(file, len))
+        return false;
+    if (len > 0) /* memcpy takes no null */
+        memcpy(file->bytes, scratch, len);
+    return true;
+}
+
+struct lent {
+    struct buffer batch, run, records, states;
+};
+
+/* A command is a dword or more, so a record and a state byte to each dword is room for all; a batch over the most needs none. */
+static bool make_lent(struct lent *lent, const char *batch_path, const char *run_path)
+{
+    if (!read_file(batch_path, &lent->batch) || !read_file(run_path, &lent->run))
+        return false;
+    size_t room = lent->batch.len / 4;
+    if (room > MPL_BATCH_DWORDS_MOST)
+        room = MPL_BATCH_DWORDS_MOST;
+    return allocate(&lent->records, room * MPL_RECORD_BYTES) && allocate(&lent->states, room);
+}
+
+static void free_lent(struct lent *lent)
+{
+    free(lent->batch.bytes);
+    free(lent->run.bytes);
+    free(lent->records.bytes);
+    free(lent->states.bytes);
+}
+
+static void print_refused(const char *check, uint64_t number, uint64_t place, const struct meaning *meaning)
+{
+    printf("%s: number %" PRIu64 ", place %" PRIu64 ": %s; place: %s", check, number, place, meaning->words, meaning->place);
+}
+
+static void print_batch(const struct mpl_batch *batch)
+{
+    if (batch->number == MPL_ACCEPTED)
+        printf("batch: number 0, place %" PRIu64 ": accepted, %" PRIu64 " commands, %" PRIu64 " dwords", batch->place,
+               batch->commands, batch->dwords);
+    else
+        print_refused("batch", batch->number, batch->place, meaning_of(batch->number));
+    putchar('\n');
+}
+
+/* The order check asks after a part of a dword in the batch, then in the run: where the batch has none, 17 is the run's. */
+static void print_order(const struct mpl_order *order, bool batch_is_whole)
+{
+    if (order->number == MPL_ACCEPTED)
+        printf("order: number 0, place %" PRIu64 ": accepted; place: the run's events", order->place);
+    else if (order->number == MPL_PART_OF_A_DWORD && batch_is_whole)
+        print_refused("order", order->number, order->place, &part_of_run);
+    else
+        print_refused("order", order->number, order->place, meaning_of(order->number));
+    if (order->number == MPL_STALLS)
+        printf("; names object %" PRIu64, order->object);
+    if (order->number == MPL_WAITS)
+        printf("; names object %" PRIu64 ", delta %" PRIu64, order->object, order->delta);
+    putchar('\n');
+}
+
+/* A record's kind is its first word, little-endian. */
+static uint32_t kind_of(const uint8_t *record)
+{
+    const uint8_t *word = record + 4 * MPL_WORD_KIND;
+    return (uint32_t)word[0] | (uint32_t)word[1] << 8 | (uint32_t)word[2] << 16 | (uint32_t)word[3] << 24;
+}
+
+static size_t objects_in(const uint8_t *records, size_t commands)
+{
+    size_t objects = 0;
+    for (size_t i = 0; i < commands; i++)
+        if (kind_of(records + i * MPL_RECORD_BYTES) == MPL_OBJECT)
+            objects++;
+    return objects;
+}
+
+static size_t in_state(const uint8_t *states, size_t objects, uint8_t state)
+{
+    size_t n = 0;
+    for (size_t k = 0; k < objects; k++)
+        if (states[k] == state)
+            n++;
+    return n;
+}
+
+/* Of the bytes lent only those of the objects were set. */
+static void print_states(const struct lent *lent, size_t commands)
+{
+    const uint8_t *states = lent->states.bytes;
+    size_t objects = objects_in(lent->records.bytes, commands);
+    printf("objects: %zu waiting, %zu running, %zu finished\n", in_state(states, objects, MPL_WAITING),
+           in_state(states, objects, MPL_RUNNING), in_state(states, objects, MPL_FINISHED));
+}
+
+/* On any other number the order check has set no record and no state. */
+static bool run_was_begun(uint64_t number)
+{
+    return number == MPL_ACCEPTED || (number >= MPL_NO_SUCH_OBJECT && number <= MPL_WAITS);
+}
+
+static int ask(const struct lent *lent, uint32_t capacity)
+{
+    struct mpl_batch batch =
+        mpl_check_batch(lent->batch.bytes, lent->batch.len, capacity, lent->records.bytes, lent->records.len);
+    print_batch(&batch);
+    struct mpl_order order =
+        mpl_check_order(lent->batch.bytes, lent->batch.len, capacity, lent->run.bytes, lent->run.len,
+                        lent->records.bytes, lent->records.len, lent->states.bytes, lent->states.len);
+    print_order(&order, batch.number != MPL_PART_OF_A_DWORD);
+    if (run_was_begun(order.number))
+        print_states(lent, batch.commands);
+    return batch.number == MPL_ACCEPTED && order.number == MPL_ACCEPTED ? ACCEPTED : REFUSED;
+}
+
+/* strtoull would take a sign or a blank; its answer on overflow is above every capacity. */
+static bool read_capacity(const char *text, uint32_t *capacity)
+{
+    char *end;
+    unsigned long long rows = strtoull(text, &end, 10);
+    *capacity = (uint32_t)rows;
+    return text[0] >= '0' && text[0] <= '9' && *end == '\0' && rows <= UINT32_MAX;
+}
+
+int main(int argc, char **argv)
+{
+    uint32_t capacity = usual_capacity;
+    if (argc < 3 || argc > 4 || (argc == 4 && !read_capacity(argv[3], &capacity))) {
+        fputs(usage, stderr);
+        return NOT_ASKED;
+    }
+    struct lent lent = {0};
+    int status = make_lent(&lent, argv[1], argv[2]) ? ask(&lent, capacity) : NOT_ASKED;
+    free_lent(&lent);
+    return status;
+}
