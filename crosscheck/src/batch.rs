@@ -28,8 +28,9 @@ pub const OBJECT: u32 = 0x7100;
 const OBJECT_FIXED: usize = 6;
 
 /// What an entry answers. On success the place is 0, on refusal commands and
-/// dwords are 0.
+/// dwords are 0. Laid out as in C, so that the library can answer with it too.
 #[derive(Clone, Copy, Debug, PartialEq, Eq)]
+#[repr(C)]
 pub struct Answer {
     pub number: u64,
     pub place: u64,

@@ -15,14 +15,6 @@ mod replay;
 #[cfg(feature = "replay")]
 pub use replay::replay;
 
-#[repr(C)]
-struct MplBatch {
-    number: u64,
-    place: u64,
-    commands: u64,
-    dwords: u64,
-}
-
 extern "C" {
     fn mpl_check_batch(
         batch: *const u8,
@@ -30,7 +22,7 @@ extern "C" {
         capacity: u32,
         records: *mut u8,
         records_len: usize,
-    ) -> MplBatch;
+    ) -> Answer;
 
     fn mpl_check_batch_dwords(
         batch: *const u32,
@@ -38,18 +30,7 @@ extern "C" {
         capacity: u32,
         records: *mut u32,
         records_len: usize,
-    ) -> MplBatch;
-}
-
-impl From<MplBatch> for Answer {
-    fn from(answer: MplBatch) -> Self {
-        Answer {
-            number: answer.number,
-            place: answer.place,
-            commands: answer.commands,
-            dwords: answer.dwords,
-        }
-    }
+    ) -> Answer;
 }
 
 /// The batch check over little-endian bytes.
@@ -65,7 +46,6 @@ pub fn check_batch(batch: &[u8], capacity: u32, records: &mut [u8]) -> Answer {
             records.len(),
         )
     }
-    .into()
 }
 
 /// The batch check over dwords.
@@ -80,7 +60,6 @@ pub fn check_batch_dwords(batch: &[u32], capacity: u32, records: &mut [u32]) -> 
             records.len(),
         )
     }
-    .into()
 }
 
 /// Both entries with nothing lent: null pointers, which are allowed at length 0.
@@ -89,8 +68,8 @@ pub fn check_nothing(capacity: u32) -> [Answer; 2] {
     // SAFETY: a pointer of length 0 is not used.
     unsafe {
         [
-            mpl_check_batch(null(), 0, capacity, null_mut(), 0).into(),
-            mpl_check_batch_dwords(null(), 0, capacity, null_mut(), 0).into(),
+            mpl_check_batch(null(), 0, capacity, null_mut(), 0),
+            mpl_check_batch_dwords(null(), 0, capacity, null_mut(), 0),
         ]
     }
 }

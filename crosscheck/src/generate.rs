@@ -8,7 +8,7 @@ pub mod order;
 pub mod replay;
 
 /// Dwords as little-endian bytes.
-fn bytes(dwords: &[u32]) -> Vec<u8> {
+pub fn bytes(dwords: &[u32]) -> Vec<u8> {
     dwords
         .iter()
         .flat_map(|dword| dword.to_le_bytes())

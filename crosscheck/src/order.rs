@@ -9,7 +9,9 @@ use crate::batch::{self, Refusal, Word, RECORD};
 
 /// What an entry answers. On 0 the place is the event count, from 20 on the
 /// position in the run; object and delta are 0 where the number names none.
+/// Laid out as in C, so that the library can answer with it too.
 #[derive(Clone, Copy, Debug, PartialEq, Eq)]
+#[repr(C)]
 pub struct Answer {
     pub number: u64,
     pub place: u64,
@@ -183,10 +185,8 @@ impl<W: Word> Board<'_, W> {
     /// Rules 24 and 25 for an object in state 0. It is itself unfinished, so no
     /// search below goes past it.
     fn may_start(&mut self, object: usize) -> Result<(), Fault> {
-        self.unfinished = self.walk(
-            self.unfinished,
-            self.unfinished_from(self.unfinished.object),
-        );
+        let first = self.first_from(self.unfinished.object, |state| state != FINISHED);
+        self.unfinished = self.walk(self.unfinished, first);
         let own = self.walk(self.unfinished, object);
         let own = &self.records[own.record];
         let vfe = &self.records[own[VFE_RECORD].get() as usize];
@@ -195,8 +195,7 @@ impl<W: Word> Board<'_, W> {
             return Ok(());
         }
         if stalling(dword_5) {
-            let rest = &self.states[self.waiting..];
-            self.waiting += rest.iter().take_while(|&&state| state != WAITING).count();
+            self.waiting = self.first_from(self.waiting, |state| state == WAITING);
             if self.waiting < object {
                 return Err(Fault {
                     number: 24,
@@ -212,12 +211,17 @@ impl<W: Word> Board<'_, W> {
             mask: (dword_5 & own[MASK].get()) as u8,
             deltas: u64::from(vfe[VFE_DWORD_6].get()) | u64::from(vfe[VFE_DWORD_7].get()) << 32,
         };
-        if waiter.mask == 0 {
-            return Ok(());
+        match waiter.mask {
+            0 => Ok(()),
+            _ => self.may_pass(&waiter, object),
         }
+    }
+
+    /// Rule 25: nobody that the object waits for stands before it.
+    fn may_pass(&self, waiter: &Waiter, object: usize) -> Result<(), Fault> {
         let mut other = self.unfinished;
         while other.object < object {
-            if let Some(delta) = self.waits_for(&waiter, other.record) {
+            if let Some(delta) = self.waits_for(waiter, other.record) {
                 return Err(Fault {
                     number: 25,
                     object: other.object,
@@ -233,10 +237,10 @@ impl<W: Word> Board<'_, W> {
     /// uses a scoreboard and the colours agree.
     fn waits_for(&self, waiter: &Waiter, record: usize) -> Option<usize> {
         let other = &self.records[record];
-        // As whole numbers: a difference from -8 to 7, so that it is one delta's.
+        // As whole numbers: differences from -8 to 7, so that they are one delta's.
         let right = other[X].get().wrapping_sub(waiter.x);
         let down = other[Y].get().wrapping_sub(waiter.y);
-        if right.wrapping_add(8) > 15 || down.wrapping_add(8) > 15 {
+        if right.wrapping_add(8) | down.wrapping_add(8) > 15 {
             return None;
         }
         if other[COLOUR].get() != waiter.colour {
@@ -250,6 +254,14 @@ impl<W: Word> Board<'_, W> {
         (0..8).find(|&at| waiter.mask >> at & 1 == 1 && (waiter.deltas >> (8 * at)) as u8 == delta)
     }
 
+    /// The first object from `from` on in a state sought; one must exist. Step by
+    /// step: a cursor moved so passes each object once in a whole run.
+    fn first_from(&self, from: usize, sought: impl Fn(u8) -> bool) -> usize {
+        let mut states = self.states[from..].iter();
+        let past = states.position(|&state| sought(state));
+        from + past.expect("an object in a state sought")
+    }
+
     /// The first unfinished object from `from` on; one must exist.
     fn unfinished_from(&self, from: usize) -> usize {
         match self.states[from] {
@@ -258,15 +270,14 @@ impl<W: Word> Board<'_, W> {
         }
     }
 
-    /// The same over a stretch of finished ones, sixteen at a time.
+    /// The same over a stretch of finished ones, sixteen at a time: every start may
+    /// have to cross it.
     #[inline(never)]
     fn past_finished(&self, from: usize) -> usize {
         let rest = &self.states[from..];
         let chunks = rest.as_chunks().0.iter();
         let whole = 16 * chunks.take_while(|&&chunk| chunk == [FINISHED; 16]).count();
-        let mut rest = rest[whole..].iter();
-        let short = rest.position(|&state| state != FINISHED);
-        from + whole + short.expect("an unfinished object")
+        self.first_from(from + whole, |state| state != FINISHED)
     }
 
     /// Goes from one object to a later one, or stays. Every object between takes

@@ -25,6 +25,7 @@ pub use landing::landings;
 
 /// A thread's gateway; all 0 where it is closed. The size is the size code.
 #[derive(Clone, Copy, Debug, Default, PartialEq, Eq)]
+#[repr(C)]
 pub struct Gateway {
     pub open: u32,
     pub base: u32,
@@ -34,13 +35,16 @@ pub struct Gateway {
 
 /// A barrier's byte and who waits at it, bit t for thread t.
 #[derive(Clone, Copy, Debug, Default, PartialEq, Eq)]
+#[repr(C)]
 pub struct Barrier {
     pub byte: u32,
     pub waiting: u32,
 }
 
 /// What the entry answers; on refusal the gateways are closed and the barriers empty.
+/// Laid out as in C, with what it holds, so that the library can answer with it too.
 #[derive(Clone, Copy, Debug, Default, PartialEq, Eq)]
+#[repr(C)]
 pub struct Replayed {
     pub number: u32,
     pub gateways: [Gateway; 16],
@@ -186,8 +190,8 @@ impl Desk<'_> {
         let sender = usize::from(sender);
         let ack = flags & 1 == 1;
         let end_of_thread = flags & END_OF_THREAD != 0;
-        let zeros = event[10..16].iter().fold(0, |joined, byte| joined | byte);
-        if sender >= self.registers.len() || flags > 15 || ack && end_of_thread || zeros != 0 {
+        let stray = event[10..16] != [0; 6];
+        if sender >= self.registers.len() || flags > 15 || ack && end_of_thread || stray {
             return 31;
         }
         // End of thread belongs to kinds 0 and 1, a counted ack to 0, 1, 2 and 4.

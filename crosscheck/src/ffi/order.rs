@@ -2,14 +2,6 @@
 
 use crate::order::Answer;
 
-#[repr(C)]
-struct MplOrder {
-    number: u64,
-    place: u64,
-    object: u64,
-    delta: u64,
-}
-
 extern "C" {
     fn mpl_check_order(
         batch: *const u8,
@@ -21,7 +13,7 @@ extern "C" {
         records_len: usize,
         states: *mut u8,
         states_len: usize,
-    ) -> MplOrder;
+    ) -> Answer;
 
     fn mpl_check_order_dwords(
         batch: *const u32,
@@ -33,18 +25,7 @@ extern "C" {
         records_len: usize,
         states: *mut u8,
         states_len: usize,
-    ) -> MplOrder;
-}
-
-impl From<MplOrder> for Answer {
-    fn from(answer: MplOrder) -> Self {
-        Answer {
-            number: answer.number,
-            place: answer.place,
-            object: answer.object,
-            delta: answer.delta,
-        }
-    }
+    ) -> Answer;
 }
 
 /// The order check over little-endian bytes.
@@ -70,7 +51,6 @@ pub fn check_order(
             states.len(),
         )
     }
-    .into()
 }
 
 /// The order check over dwords.
@@ -95,5 +75,4 @@ pub fn check_order_dwords(
             states.len(),
         )
     }
-    .into()
 }

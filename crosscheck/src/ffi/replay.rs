@@ -1,27 +1,6 @@
 //! The library's gateway replay.
 
-use crate::replay::{Barrier, Gateway, Replayed};
-
-#[repr(C)]
-struct MplGateway {
-    open: u32,
-    base: u32,
-    size: u32,
-    key: u32,
-}
-
-#[repr(C)]
-struct MplBarrier {
-    byte: u32,
-    waiting: u32,
-}
-
-#[repr(C)]
-struct MplReplayed {
-    number: u32,
-    gateways: [MplGateway; 16],
-    barriers: [MplBarrier; 16],
-}
+use crate::replay::Replayed;
 
 extern "C" {
     fn mpl_replay(
@@ -33,25 +12,7 @@ extern "C" {
         counts_len: usize,
         outcomes: *mut u8,
         outcomes_len: usize,
-    ) -> MplReplayed;
-}
-
-impl From<MplReplayed> for Replayed {
-    fn from(answer: MplReplayed) -> Self {
-        Replayed {
-            number: answer.number,
-            gateways: answer.gateways.map(|gateway| Gateway {
-                open: gateway.open,
-                base: gateway.base,
-                size: gateway.size,
-                key: gateway.key,
-            }),
-            barriers: answer.barriers.map(|barrier| Barrier {
-                byte: barrier.byte,
-                waiting: barrier.waiting,
-            }),
-        }
-    }
+    ) -> Replayed;
 }
 
 /// The gateway replay.
@@ -75,5 +36,4 @@ pub fn replay(
             outcomes.len(),
         )
     }
-    .into()
 }

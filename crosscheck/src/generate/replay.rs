@@ -345,18 +345,18 @@ fn junk(random: &mut Random) -> Case {
     }
 }
 
-/// A recording of all kinds, as long as one can be.
-pub fn mixed() -> Case {
+/// A recording of all kinds.
+pub fn mixed(events: usize) -> Case {
     let random = &mut Random::new(11);
     let groups: Vec<u8> = (0..16).map(|thread| thread / 3).collect();
     let mut recording = Recording::new(&groups, false);
-    recording.fill(random, MOST, true);
+    recording.fill(random, events, true);
     recording.case()
 }
 
-/// Nothing but accepted forwards of all lengths, as many as a recording holds:
-/// under bypass, or through sixteen gateways that are opened first.
-pub fn forwards(bypass: bool) -> Case {
+/// Nothing but accepted forwards of all lengths: under bypass, or through sixteen
+/// gateways that are opened first.
+pub fn forwards(events: usize, bypass: bool) -> Case {
     let random = &mut Random::new(12);
     let mut recording = Recording::new(&[NO_GROUP; 16], bypass);
     let window = if bypass { REGISTERS } else { REGISTER << 5 };
@@ -365,7 +365,7 @@ pub fn forwards(bypass: bool) -> Case {
             recording.push(random, Event::open(thread, 96, 5, 7));
         }
     }
-    while recording.events.len() < MOST {
+    while recording.events.len() < events {
         let (sender, recipient) = (random.below(16) as u8, random.below(16) as u8);
         let length = random.below(6) as u8;
         let offset = random.below(window - (1 << length) + 1) as u16;
@@ -391,10 +391,13 @@ pub fn sweep(seed: u64) -> Vec<Case> {
     sweep.keys_and_gates();
     sweep.own_acks();
     sweep.barriers();
-    sweep
-        .cases
-        .extend([mixed(), forwards(true), forwards(false)]);
+    sweep.cases.extend(longest());
     sweep.cases
+}
+
+/// Recordings as long as they can be.
+pub fn longest() -> [Case; 3] {
+    [mixed(MOST), forwards(MOST, true), forwards(MOST, false)]
 }
 
 struct Sweep {

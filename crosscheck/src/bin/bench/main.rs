@@ -1,4 +1,5 @@
-//! Time of the library and of the second implementation on the same inputs.
+//! Time of the library and of the second implementation on the same inputs, as
+//! Markdown tables.
 //!
 //! `bench [batch|order|replay]`: all subjects that the features switch on, or one.
 
@@ -7,6 +8,7 @@ mod batch;
 mod order;
 #[cfg(feature = "replay")]
 mod replay;
+mod table;
 mod timing;
 
 use std::process::ExitCode;
@@ -31,6 +33,9 @@ fn main() -> ExitCode {
         eprintln!("usage: bench [{}]", names.join("|"));
         return ExitCode::from(2);
     }
+    println!(
+        "Ratio: the second's time / the library's time; at 1.0 or more the library is as fast."
+    );
     for (_, run) in SUBJECTS.iter().filter(|(name, _)| chosen(name)) {
         run();
     }

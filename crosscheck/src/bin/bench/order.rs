@@ -1,104 +1,78 @@
-//! The order check on whole pictures: time per run, and how it grows.
+//! The order check on parts of a picture and the whole of it: time per event.
 
-use crate::timing::turns;
+use crate::table::{self, Input};
+use crate::timing::{from_line, LINE};
 use crosscheck::batch::RECORD;
 use crosscheck::ffi;
+use crosscheck::generate;
 use crosscheck::generate::order::{picture, spread, Layout, Scene, PICTURE};
 use crosscheck::order::{self, Answer};
-use std::hint::black_box;
+
+/// A scene and its run.
+type Course = (Scene, Vec<u32>);
 
 pub fn run() {
-    println!(
-        "{:<34} {:<7} {:>7} {:>14} {:>14} {:>15} {:>15}",
-        "order", "entry", "events", "library us", "second us", "library/second", "second ns/event"
-    );
-    let (width, height) = PICTURE;
-    for (part, height) in [
-        ("quarter", height / 4),
-        ("half", height / 2),
-        ("full", height),
-    ] {
-        let (scene, run) = picture(width, height, Layout::Waves, true);
-        order_check(&format!("wave by wave, stalling, {part}"), &scene, &run);
-    }
-    for (part, height) in [
-        ("quarter", height / 4),
-        ("half", height / 2),
-        ("full", height),
-    ] {
-        let (scene, run) = picture(width, height, Layout::Raster, true);
-        order_check(&format!("block by block, stalling, {part}"), &scene, &run);
-    }
+    table::head("order", "event");
+    parts("wave by wave, stalling", |width, height| {
+        picture(width, height, Layout::Waves, true)
+    });
+    parts("block by block, stalling", |width, height| {
+        picture(width, height, Layout::Raster, true)
+    });
     // What costs most: each start must look at all the blocks before it.
-    for (part, height) in [
-        ("quarter", height / 4),
-        ("half", height / 2),
-        ("full", height),
-    ] {
-        let (scene, run) = spread(width, height);
-        order_check(&format!("all at once, not stalling, {part}"), &scene, &run);
+    parts("all at once, not stalling", spread);
+}
+
+/// A quarter of the picture, half of it and the whole.
+fn parts(name: &str, course: fn(i32, i32) -> Course) {
+    let (width, height) = PICTURE;
+    for part in [height / 4, height / 2, height] {
+        let (scene, run) = course(width, part);
+        both_entries(name, &scene, &run);
     }
 }
 
-fn order_check(name: &str, scene: &Scene, run: &[u32]) {
+fn both_entries(name: &str, scene: &Scene, run: &[u32]) {
     let (batch, commands, rows) = scene.batch();
-    let bytes =
-        |words: &[u32]| -> Vec<u8> { words.iter().flat_map(|word| word.to_le_bytes()).collect() };
-    let states = vec![0; scene.objects()];
-    Pair {
-        library: ffi::check_order_dwords,
-        second: order::check,
+    let size = run.len();
+    let input = |entry| Input { name, entry, size };
+    let lent = Lent {
         batch: &batch,
         rows,
         run,
-    }
-    .print(
-        name,
-        "dwords",
-        run.len(),
-        (vec![0; RECORD * commands], states.clone()),
-    );
-    Pair {
-        library: ffi::check_order,
-        second: order::check_bytes,
-        batch: &bytes(&batch),
+        records: RECORD * commands,
+        states: scene.objects(),
+    };
+    let dwords = [ffi::check_order_dwords, order::check];
+    row(&input("dwords"), dwords, &lent);
+    let lent = Lent {
+        batch: &generate::bytes(&batch),
         rows,
-        run: &bytes(run),
-    }
-    .print(
-        name,
-        "bytes",
-        run.len(),
-        (vec![0; 4 * RECORD * commands], states),
-    );
+        run: &generate::bytes(run),
+        records: 4 * RECORD * commands,
+        states: scene.objects(),
+    };
+    let bytes = [ffi::check_order, order::check_bytes];
+    row(&input("bytes"), bytes, &lent);
 }
 
 type Check<T> = fn(&[T], u32, &[T], &mut [T], &mut [u8]) -> Answer;
 
-struct Pair<'a, T> {
-    library: Check<T>,
-    second: Check<T>,
+/// What is lent to an entry: what it reads, and the lengths of what it writes.
+struct Lent<'a, T> {
     batch: &'a [T],
     rows: u32,
     run: &'a [T],
+    records: usize,
+    states: usize,
 }
 
-impl<T> Pair<'_, T> {
-    fn print(&self, name: &str, entry: &str, events: usize, mut buffers: (Vec<T>, Vec<u8>)) {
-        let call = |check: Check<T>| {
-            move |(records, states): &mut (Vec<T>, Vec<u8>)| {
-                let (batch, run) = black_box((self.batch, self.run));
-                let answer = check(batch, self.rows, run, records, black_box(states));
-                assert_eq!(answer, Answer::new(0, events));
-            }
-        };
-        let (library, second) = turns(&mut buffers, call(self.library), call(self.second));
-        println!(
-            "{name:<34} {entry:<7} {events:>7} {:>14.2} {:>14.2} {:>15.3} {:>15.2}",
-            library * 1e6,
-            second * 1e6,
-            library / second,
-            second * 1e9 / events as f64,
-        );
-    }
+fn row<T: Clone + Default>(input: &Input, entries: [Check<T>; 2], lent: &Lent<T>) {
+    let mut room = vec![T::default(); lent.records + LINE];
+    let records = from_line(&mut room);
+    let mut states = vec![0; lent.states];
+    table::row(input, entries, |check| {
+        let answer = check(lent.batch, lent.rows, lent.run, records, &mut states);
+        assert_eq!(answer, Answer::new(0, input.size));
+    });
 }

@@ -1,53 +1,35 @@
-//! The gateway replay on recordings as long as they can be: time per event.
+//! The gateway replay, up to recordings as long as they can be: time per event.
 
-use crate::timing::turns;
+use crate::table::{self, Input};
 use crosscheck::ffi;
 use crosscheck::generate::replay::{forwards, mixed, Case, MOST};
 use crosscheck::replay::{self, Replayed};
-use std::hint::black_box;
+
+const SIZES: [usize; 3] = [1_000, 10_000, MOST];
 
 pub fn run() {
-    println!(
-        "{:<34} {:>7} {:>14} {:>14} {:>15} {:>12}",
-        "replay", "events", "library ns/ev", "second ns/ev", "library/second", "speed ratio"
-    );
-    replay_whole("mixed", &mixed());
-    replay_whole("forwards alone, bypass", &forwards(true));
-    replay_whole("forwards through open gateways", &forwards(false));
-}
-
-struct Buffers {
-    registers: Vec<u8>,
-    counts: Vec<u32>,
-    outcomes: Vec<u8>,
+    table::head("replay", "event");
+    sizes("mixed", mixed);
+    sizes("forwards alone, bypass", |size| forwards(size, true));
+    sizes("forwards through open gateways", |size| {
+        forwards(size, false)
+    });
 }
 
 type Replay = fn(&[u8], &mut [u8], &mut [u32], &mut [u8]) -> Replayed;
 
-fn replay_whole(name: &str, case: &Case) {
-    let mut buffers = Buffers {
-        registers: vec![0; case.registers],
-        counts: vec![0; case.counts],
-        outcomes: vec![0; case.outcomes],
-    };
-    let call = |replay: Replay| {
-        move |buffers: &mut Buffers| {
-            let answer = replay(
-                black_box(&case.recording),
-                &mut buffers.registers,
-                &mut buffers.counts,
-                black_box(&mut buffers.outcomes),
-            );
-            assert_eq!(black_box(answer).number, 0);
-        }
-    };
-    let (library, second) = turns(&mut buffers, call(ffi::replay), call(replay::replay));
-    let per_event = 1e9 / MOST as f64;
-    println!(
-        "{name:<34} {MOST:>7} {:>14.3} {:>14.3} {:>15.3} {:>12.3}",
-        library * per_event,
-        second * per_event,
-        library / second,
-        second / library,
-    );
+fn sizes(name: &str, recording: fn(usize) -> Case) {
+    for size in SIZES {
+        let case = recording(size);
+        let mut registers = vec![0; case.registers];
+        let mut counts = vec![0; case.counts];
+        let mut outcomes = vec![0; case.outcomes];
+        let entry = "bytes";
+        let entries: [Replay; 2] = [ffi::replay, replay::replay];
+        table::row(&Input { name, entry, size }, entries, |replay| {
+            let recording = &case.recording;
+            let answer = replay(recording, &mut registers, &mut counts, &mut outcomes);
+            assert_eq!(answer.number, 0);
+        });
+    }
 }

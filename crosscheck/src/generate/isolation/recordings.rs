@@ -90,12 +90,8 @@ fn recipients(recording: &[u8]) -> Vec<usize> {
 /// The replay's own sweep, thinned out, and its long recordings.
 pub fn sweep(seed: u64) -> Vec<Pair> {
     let random = &mut Random::new(seed);
-    let long = [
-        replay::mixed(),
-        replay::forwards(true),
-        replay::forwards(false),
-    ];
-    let cases = replay::sweep(seed).into_iter().step_by(7).chain(long);
+    let cases = replay::sweep(seed).into_iter().step_by(7);
+    let cases = cases.chain(replay::longest());
     cases.map(|first| any_pair(random, first)).collect()
 }
 

@@ -50,12 +50,13 @@ fn random_cases_are_mostly_sound() {
 
 #[test]
 fn forwards_are_accepted() {
-    for case in [forwards(true), forwards(false)] {
+    let [mixed, under_bypass, through_gateways] = longest();
+    for case in [under_bypass, through_gateways] {
         let (number, outcomes) = replayed(&case);
         assert_eq!((number, outcomes.len()), (0, MOST));
         assert!(outcomes.iter().all(|&outcome| outcome == 0));
     }
-    let (number, outcomes) = replayed(&mixed());
+    let (number, outcomes) = replayed(&mixed);
     assert_eq!((number, outcomes.len()), (0, MOST));
     let accepted = outcomes.iter().filter(|&&outcome| outcome == 0).count();
     assert!((MOST / 2..MOST * 4 / 5).contains(&accepted), "{accepted}");
