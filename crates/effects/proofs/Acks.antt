@@ -13,20 +13,23 @@ use Rattle.words.proofs.Dwords.{held-bytes, stored-bytes}
 use Rattle.event.specs.declared.Head.{Head}
 use Rattle.event.specs.declared.Setup.{Setup}
 use Rattle.event.specs.declared.Gateway.{Gateway}
-use Rattle.event.specs.Outcomes.{countedAck, decisionOf, outcomeOf}
+use Rattle.event.specs.Outcomes.{countedAck, malformed, decisionOf, outcomeOf}
 use Rattle.event.proofs.Formed.{formed-sender, formed-register}
 use Rattle.event.proofs.Reach.{formed-of}
 use Rattle.effects.specs.Effects.{acknowledged, ackPlace, withAck}
 
 -- an acknowledged event is not malformed, so that its register is one of the sender's
-pub ack-room : (h : Head) (s : Setup) (g : Gateway) (waits : List Bool) (n : ℕ) → n ≡ 4096 * s .threads
-    → acknowledged h (outcomeOf (decisionOf h s g waits)) ≡ true → 4 * ackPlace h + 4 ≤ n
-ack-room h s g waits n e a =
-    let o = outcomeOf (decisionOf h s g waits) in
+pub ack-place : (h : Head) (threads o n : ℕ) → n ≡ 4096 * threads → ((o ≡ 31 → ⊥) → malformed (h .kind) h threads ≡ false)
+    → acknowledged h o ≡ true → 4 * ackPlace h + 4 ≤ n
+ack-place h threads o n e formed a =
     let k = and-left (countedAck (h .kind) h) _ a in
     let u : eqb o 31 || eqb o 32 ≡ false = not-true _ (and-right (countedAck (h .kind) h) _ a) in
-    let f = formed-of h s g waits (eqb-false o 31 (none-of (eqb o 31 ∷ eqb o 32 ∷ []) 0 (simp or-false u))) in
-    omega (arith, formed-sender (h .kind) h (s .threads) f, formed-register (h .kind) h (s .threads) f k)
+    let f = formed (eqb-false o 31 (none-of (eqb o 31 ∷ eqb o 32 ∷ []) 0 (simp or-false u))) in
+    omega (arith, formed-sender (h .kind) h threads f, formed-register (h .kind) h threads f k)
+
+pub ack-room : (h : Head) (s : Setup) (g : Gateway) (waits : List Bool) (o n : ℕ) → n ≡ 4096 * s .threads → o ≡ outcomeOf (decisionOf h s g waits)
+    → acknowledged h o ≡ true → 4 * ackPlace h + 4 ≤ n
+ack-room h s g waits o n e d a = ack-place h (s .threads) o n e (λ m. formed-of h s g waits (λ z. m (d ∙ z))) a
 
 module _ (h : Head) (o : ℕ) where
   acked : countedAck (h .kind) h ≡ true → (o ≡ 31 → ⊥) → (o ≡ 32 → ⊥) → acknowledged h o ≡ true

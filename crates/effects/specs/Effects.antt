@@ -10,8 +10,7 @@ use Rattle.words.specs.Dwords.{putLe}
 use Rattle.event.specs.declared.Head.{Head}
 use Rattle.event.specs.declared.Setup.{Setup}
 use Rattle.event.specs.declared.Gateway.{Gateway}
-use Rattle.event.specs.declared.Decision.{Decision}
-use Rattle.event.specs.declared.Decision.the-variants.{Refused, Open, Close, Forward, Wait, Release, Update}
+use Rattle.event.specs.Decision.{Decision, Refused, Open, Close, Forward, Wait, Release, Update}
 use Rattle.event.specs.Codes.{closed, opened}
 use Rattle.event.specs.Groups.{groupOf}
 use Rattle.event.specs.Outcomes.{countedAck}

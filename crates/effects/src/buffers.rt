@@ -1,39 +1,43 @@
-// What an event leaves in the lent buffers: forwarded bytes, notifications and its acknowledgement.
+// What is written into the lent buffers: a forward's bytes, notifications and an acknowledgement.
 ghost use mathlib.Core.Path.{_≡_};
-ghost use mathlib.Core.Bool.{true};
+ghost use mathlib.Core.Bool.{true, cond};
 ghost use Prim.Native.Nat.{ℕ, _+_, _*_, _≤_, _<_};
-ghost use lib.ListN.{length, getD, drop};
+ghost use lib.ListN.{length, getD, take, drop};
 ghost use lib.Seq.{paste};
-ghost use Rattle.event.specs.Within.{Within};
-ghost use Rattle.effects.specs.Effects.{oneMore, notified, paid, countsAfter, forwarded, acknowledged, ackPlace, withAck, Room};
-use event::Decision;
+ghost use Rattle.effects.specs.Effects.{oneMore, notified, paid, acknowledged, ackPlace, withAck};
 use event::Head;
 use event::Setup;
 use event::form::counted_ack;
 
-fn one_more(counts: &mut [u32], k: usize)
-    requires { ⌜ (k < length (now counts)) × (getD (now counts) k 0 < 4294967295) ⌝ }
-    ensures { λ _. ⌜ now (counts .exit) ≡ oneMore (now (counts .entry)) k ⌝ }
+// 1 if so, else 0.
+fn one_if(b: bool) -> u32
+    ensures { λ r. ⌜ r ≡ cond b 1 0 ⌝ }
 {
-    counts[k] = counts[k] + 1;
+    if b {
+        return 1;
+    }
+    0
+}
+
+// One more at a place, or none. A branch here would be mispredicted, so none is taken.
+fn one_more_if(counts: &mut [u32], k: usize, b: bool)
+    requires { ⌜ (k < length (now counts)) × (getD (now counts) k 0 < 4294967295) ⌝ }
+    ensures { λ _. ⌜ now (counts .exit) ≡ cond b (oneMore (now (counts .entry)) k) (now (counts .entry)) ⌝ }
+{
+    counts[k] = counts[k] + one_if(b);
 }
 
 // The notification of a forward.
-fn notify(counts: &mut [u32], to: usize, notify: u32)
+pub fn notify(counts: &mut [u32], to: usize, notify: u32)
     requires { ⌜ (2 * to + 1 < length (now counts)) × (length (now counts) ≤ 32) × ((k : ℕ) → getD (now counts) k 0 < 4294967295) ⌝ }
     ensures { λ _. ⌜ now (counts .exit) ≡ notified to notify (now (counts .entry)) ⌝ }
 {
-    if notify == 0 {
-        return;
-    }
-    if 2 < notify {
-        return;
-    }
-    one_more(counts, 2 * to + notify as usize - 1);
+    one_more_if(counts, 2 * to, notify == 1);
+    one_more_if(counts, 2 * to + 1, notify == 2);
 }
 
 // Each member of a group gets one N0.
-fn pay(setup: Setup, group: u8, counts: &mut [u32])
+pub fn pay(setup: Setup, group: u8, counts: &mut [u32])
     requires { ⌜ (setup .threads ≤ 16) × (length (now counts) ≡ 2 * setup .threads) × ((k : ℕ) → getD (now counts) k 0 < 4294967295) ⌝ }
     ensures { λ _. ⌜ now (counts .exit) ≡ paid (setup .threads) (setup .groups) group (now (counts .entry)) ⌝ }
 {
@@ -41,15 +45,38 @@ fn pay(setup: Setup, group: u8, counts: &mut [u32])
     let groups = setup.groups;
     let mut t = 0;
     while t < threads {
-        if groups[t] == group {
-            one_more(counts, 2 * t);
-        }
+        one_more_if(counts, 2 * t, groups[t] == group);
         t += 1;
     }
 }
 
-// A forward's bytes: so many of the event's data go to the registers from `at` on.
-fn write(registers: &mut [u8], at: usize, event: &[u8], count: usize)
+// The 32 bytes from `at` on.
+fn load(bytes: &[u8], at: usize) -> [u8; 32]
+    requires { ⌜ at + 32 ≤ length (now bytes) ⌝ }
+    ensures { λ r. ⌜ r ≡ take 32 (drop at (now (bytes .entry))) ⌝ }
+{
+    let mut block = [0u8; 32];
+    let mut i = 0;
+    while i < 32 {
+        block[i] = bytes[at + i];
+        i += 1;
+    }
+    block
+}
+
+fn store(bytes: &mut [u8], at: usize, block: [u8; 32])
+    requires { ⌜ at + 32 ≤ length (now bytes) ⌝ }
+    ensures { λ _. ⌜ now (bytes .exit) ≡ paste (now (bytes .entry)) at block 32 ⌝ }
+{
+    let mut i = 0;
+    while i < 32 {
+        bytes[at + i] = block[i];
+        i += 1;
+    }
+}
+
+// A forward's bytes one by one, for the registers' end.
+fn copy(registers: &mut [u8], at: usize, event: &[u8], count: usize)
     requires { ⌜ (at + count ≤ length (now registers)) × (16 + count ≤ length (now event)) ⌝ }
     ensures { λ _. ⌜ now (registers .exit) ≡ paste (now (registers .entry)) at (drop 16 (now (event .entry))) count ⌝ }
 {
@@ -60,39 +87,23 @@ fn write(registers: &mut [u8], at: usize, event: &[u8], count: usize)
     }
 }
 
-// What a decision does to the registers and the counts.
-pub fn carry_out(d: Decision, event: &[u8], setup: Setup, registers: &mut [u8], counts: &mut [u32])
-    requires { ⌜ Room setup (now event) (now registers) (now counts) ⌝ }
-    requires { ⌜ Within setup d ⌝ }
-    ensures { λ _. ⌜ (now (registers .exit) ≡ forwarded d (now (event .entry)) (now (registers .entry))) × (now (counts .exit) ≡ countsAfter d setup (now (counts .entry))) ⌝ }
+// A forward's bytes: so many of the event's data go to the registers from `at` on. A loop over the count would be mispredicted: so all 32
+// bytes of data are stored, and what stood behind the forward's bytes is put back.
+pub fn write(registers: &mut [u8], at: usize, event: &[u8], count: usize)
+    requires { ⌜ (at + count ≤ length (now registers)) × (16 + count ≤ length (now event)) ⌝ }
+    ensures { λ _. ⌜ now (registers .exit) ≡ paste (now (registers .entry)) at (drop 16 (now (event .entry))) count ⌝ }
 {
-    match d {
-        Decision::Refused { number: _ } => {}
-        Decision::Open {
-            thread: _,
-            base: _,
-            size: _,
-            key: _,
-        } => {}
-        Decision::Close { thread: _ } => {}
-        Decision::Forward {
-            to,
-            at,
-            count,
-            notify: n,
-        } => {
-            write(registers, at, event, count);
-            notify(counts, to, n);
+    let end = at + count;
+    if event.len() == 48 {
+        if 32 <= registers.len() - end {
+            let behind = load(registers, end);
+            let data = load(event, 16);
+            store(registers, at, data);
+            store(registers, end, behind);
+            return;
         }
-        Decision::Wait { thread: _ } => {}
-        Decision::Release { group } => {
-            pay(setup, group, counts);
-        }
-        Decision::Update {
-            barrier: _,
-            byte: _,
-        } => {}
     }
+    copy(registers, at, event, count);
 }
 
 // The acknowledgement of an event with this head and outcome.

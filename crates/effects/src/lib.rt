@@ -1,12 +1,4 @@
-// What an event's decision does: to the gateways, the barriers, the registers and the counts.
-use event::Gateway;
-
+// What an event does: to the gateways, the barriers, the registers and the counts.
+pub mod barriers;
 pub mod buffers;
-pub mod states;
-
-// What an event leaves to the next: each thread's gateway, each barrier's byte, and which threads wait.
-pub struct State {
-    pub gateways: [Gateway; 16],
-    pub bytes: [u32; 16],
-    pub waits: [bool; 16],
-}
+pub mod forwards;

@@ -5,4 +5,6 @@ pub mod Waiting
 pub mod Rules
 pub mod Reach
 pub mod Sources
+pub mod ByKind
+pub mod Passed
 pub mod Same

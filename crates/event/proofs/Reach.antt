@@ -12,8 +12,7 @@ use Rattle.laws.proofs.Choices.{by-cond, by-test}
 use Rattle.event.specs.declared.Head.{Head}
 use Rattle.event.specs.declared.Setup.{Setup}
 use Rattle.event.specs.declared.Gateway.{Gateway}
-use Rattle.event.specs.declared.Decision.{Decision}
-use Rattle.event.specs.declared.Decision.the-variants.{Refused}
+use Rattle.event.specs.Decision.{Decision, Refused}
 use Rattle.event.specs.Codes.{Window}
 use Rattle.event.specs.Groups.{groupOf, waitsOf, wholeOf}
 use Rattle.event.specs.Outcomes.{ends, bypassed, malformed, ruledOf, decidedOf, decisionOf, outcomeOf}

@@ -11,8 +11,7 @@ use Rattle.laws.proofs.Choices.{by-cond, by-test}
 use Rattle.event.specs.declared.Head.{Head}
 use Rattle.event.specs.declared.Setup.{Setup}
 use Rattle.event.specs.declared.Gateway.{Gateway}
-use Rattle.event.specs.declared.Decision.{Decision}
-use Rattle.event.specs.declared.Decision.the-variants.{Refused, Open, Close, Forward, Wait, Release, Update}
+use Rattle.event.specs.Decision.{Decision, Refused, Open, Close, Forward, Wait, Release, Update}
 use Rattle.event.specs.Groups.{groupOf, waitsOf, wholeOf}
 use Rattle.event.specs.Outcomes.{ends, bypassed, windowStart, malformed, ruledOf, decisionOf}
 use Rattle.event.proofs.Formed.{formed-kind}

@@ -1,12 +1,11 @@
--- Does a group wait whole? What a turn of the loop that asks shows. Assumes nothing.
+-- A group of which one does not wait does not wait whole. Assumes nothing.
 use mathlib.Core.Path.{_≡_, refl, subst}
 use mathlib.Core.Bool.{Bool, true, false, _&&_}
 use mathlib.Core.List.{List}
-use Prim.Native.Nat.{ℕ, zero, suc, _+_, _<_}
-use native.Mathlib.Numerals.{add-one}
+use Prim.Native.Nat.{ℕ, zero, suc, _<_}
 use native.Mathlib.Omega.{arith}
 use lib.Dec.{eqb}
-use borrow.Author.Tests.{eq-eqb, ne-eqb, eqb-true, eqb-false}
+use borrow.Author.Tests.{eq-eqb, eqb-true, eqb-false}
 use Rattle.laws.proofs.Choices.{by-cond, by-test}
 use Rattle.event.specs.Groups.{groupOf, waitsOf, allWait}
 
@@ -28,11 +27,3 @@ module _ (groups : List ℕ) (g : ℕ) (waits : List Bool) where
       no-and : (b : Bool) → b && false ≡ false
       no-and true = refl
       no-and false = refl
-
-  pub one-waits : (i : ℕ) → groupOf groups i ≡ g → waitsOf waits i ≡ true → allWait i groups g waits ≡ true → allWait (i + 1) groups g waits ≡ true
-  unfolding allWait
-  one-waits i e f h = rw (add-one i) (simp (eq-eqb _ _ e, f, h))
-
-  pub no-member : (i : ℕ) → (groupOf groups i ≡ g → ⊥) → allWait i groups g waits ≡ true → allWait (i + 1) groups g waits ≡ true
-  unfolding allWait
-  no-member i e h = rw (add-one i) (simp (ne-eqb _ _ e, h))

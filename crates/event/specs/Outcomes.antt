@@ -10,8 +10,7 @@ use Rattle.laws.specs.AnyOf.{anyOf}
 use Rattle.event.specs.declared.Head.{Head}
 use Rattle.event.specs.declared.Setup.{Setup}
 use Rattle.event.specs.declared.Gateway.{Gateway}
-use Rattle.event.specs.declared.Decision.{Decision}
-use Rattle.event.specs.declared.Decision.the-variants.{Refused, Open, Close, Forward, Wait, Release, Update}
+use Rattle.event.specs.Decision.{Decision, Refused, Open, Close, Forward, Wait, Release, Update}
 use Rattle.event.specs.Codes.{countOf}
 use Rattle.event.specs.Groups.{noGroup, groupOf, waitsOf, wholeOf}
 

@@ -1,8 +1,7 @@
 -- Where a decision may reach: within the threads, the barriers and the recipient's own registers.
 use Prim.Native.Nat.{ℕ, _+_, _*_, _≤_, _<_}
 use Rattle.event.specs.declared.Setup.{Setup}
-use Rattle.event.specs.declared.Decision.{Decision}
-use Rattle.event.specs.declared.Decision.the-variants.{Refused, Open, Close, Forward, Wait, Release, Update}
+use Rattle.event.specs.Decision.{Decision, Refused, Open, Close, Forward, Wait, Release, Update}
 use Rattle.event.specs.Codes.{opened, Window}
 
 -- n bytes from a on lie in the registers of thread r: 4,096 bytes from 4,096 x r on

@@ -1,8 +1,7 @@
-// One event of a recording: its bytes 0 to 15, and what the rules decide of them.
-pub mod barrier;
-pub mod decide;
+// One event of a recording: its bytes 0 to 15, and its outcome by the rules.
 pub mod form;
 pub mod heads;
+pub mod outcomes;
 
 // What an event's bytes 0 to 15 say.
 pub struct Head {
@@ -41,40 +40,4 @@ pub struct Gateway {
     // the size code
     pub size: u32,
     pub key: u32,
-}
-
-// What an event does.
-pub enum Decision {
-    // nothing, for the reason of this number
-    Refused {
-        number: u8,
-    },
-    Open {
-        thread: usize,
-        base: u32,
-        size: u32,
-        key: u32,
-    },
-    Close {
-        thread: usize,
-    },
-    // so many bytes of data go to the registers from `at` on
-    Forward {
-        to: usize,
-        at: usize,
-        count: usize,
-        notify: u32,
-    },
-    // a thread waits at its group's barrier
-    Wait {
-        thread: usize,
-    },
-    // every member of the group has come
-    Release {
-        group: u8,
-    },
-    Update {
-        barrier: usize,
-        byte: u32,
-    },
 }

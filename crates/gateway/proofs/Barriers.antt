@@ -1,23 +1,18 @@
 -- Barriers: whoever waits is a member, no group waits whole, and a release frees its group. Assumes nothing.
 use mathlib.Core.Path.{_≡_, refl, sym, ap, ap₂, _∙_, subst}
-use mathlib.Core.Bool.{Bool, true, false, cond, _&&_}
+use mathlib.Core.Bool.{Bool, true, false, _&&_}
 use mathlib.Core.List.{List, [], _∷_}
-use Prim.Native.Nat.{ℕ, zero, suc, _+_, _*_, _-_, _/_, _%_, _^_, _<_}
+use Prim.Native.Nat.{ℕ, zero, suc, _/_, _%_, _^_, _<_}
 use native.Mathlib.Omega.{arith}
-use native.Mathlib.Nat.{pow-suc, add-mul-div-right, add-comm, mul-assoc}
-use native.Mathlib.Numerals.{add-one}
-use lib.Arith.{digits-div}
 use lib.Dec.{eqb}
 use lib.ListN.{getD, set, replicate}
-use lib.Pow.{pow-add, pow-pos}
 use lib.Seq.{getD-set-other}
 use borrow.Author.Tests.{eqb-true, eqb-false}
 use Rattle.laws.proofs.Choices.{by-cond, two-cond, by-test, not-both}
 use Rattle.event.specs.declared.Head.{Head}
 use Rattle.event.specs.declared.Setup.{Setup}
 use Rattle.event.specs.declared.Gateway.{Gateway}
-use Rattle.event.specs.declared.Decision.{Decision}
-use Rattle.event.specs.declared.Decision.the-variants.{Refused, Open, Close, Forward, Wait, Release, Update}
+use Rattle.event.specs.Decision.{Decision, Refused, Open, Close, Forward, Wait, Release, Update}
 use Rattle.event.specs.Head.{headOf}
 use Rattle.event.specs.Codes.{gatewayAt}
 use Rattle.event.specs.Groups.{groupOf, waitsOf, allWait, wholeOf}
@@ -31,7 +26,7 @@ use Rattle.effects.specs.Effects.{released, waitsAfter}
 use Rattle.gateway.specs.Replay.{World, decisionIn, stepOf, runOf, waitingOf}
 use Rattle.gateway.specs.Claims.{releases, Sound, Freed}
 use Rattle.gateway.proofs.Bounds.{Windows, run-windows}
-use Rattle.gateway.proofs.Masks.{waiting-lt}
+use Rattle.gateway.proofs.Masks.{bitOf, mask-bit}
 
 -- ---- who waits, after a store and after a release
 
@@ -51,7 +46,7 @@ set-before : (l : List Bool) (n k : ℕ) → getD (set l n false) k false ≡ tr
 set-before l n k h = by-test (getD l k false) (λ e. e) (λ e. absurd (not-both _ h (cleared-stays l n k e)))
 
 module _ (groups : List ℕ) (g : ℕ) (waits : List Bool) where
-  released-at : (n t : ℕ) → t < n → groupOf groups t ≡ g → waitsOf (released n groups g waits) t ≡ false
+  pub released-at : (n t : ℕ) → t < n → groupOf groups t ≡ g → waitsOf (released n groups g waits) t ≡ false
   unfolding released
   released-at zero t h e = absurd (omega arith)
   released-at (suc n) t h e =
@@ -63,7 +58,7 @@ module _ (groups : List ℕ) (g : ℕ) (waits : List Bool) where
       (λ q. absurd (eqb-false (groupOf groups n) g m (subst (λ (j : ℕ). groupOf groups j ≡ g) (eqb-true t n q) e)))
       (λ q. let z = eqb-false t n q in released-at n t (omega arith) e))
 
-  released-other : (n t : ℕ) → (groupOf groups t ≡ g → ⊥) → waitsOf (released n groups g waits) t ≡ waitsOf waits t
+  pub released-other : (n t : ℕ) → (groupOf groups t ≡ g → ⊥) → waitsOf (released n groups g waits) t ≡ waitsOf waits t
   unfolding released
   released-other zero t h = refl
   released-other (suc n) t h =
@@ -158,46 +153,15 @@ module _ (s : Setup) (waits : List Bool) where
 -- ---- the mask of a barrier
 
 module _ (groups : List ℕ) (b : ℕ) (waits : List Bool) where
-  -- 1 where thread t is of the group and waits
-  bitOf : ℕ → ℕ
-  bitOf t = cond (eqb (groupOf groups t) b && waitsOf waits t) 1 0
-
-  bit-small : (t : ℕ) → bitOf t < 2
-  unfolding bitOf
-  bit-small t = by-cond (λ (x : ℕ). x < 2) (eqb (groupOf groups t) b && waitsOf waits t) _ _ (λ _. omega arith) (λ _. omega arith)
-
-  top : (n : ℕ) → waitingOf (suc n) groups b waits ≡ bitOf n * 2 ^ n + waitingOf n groups b waits
-  unfolding waitingOf bitOf
-  top n = two-cond (λ (x y : ℕ). x ≡ y * 2 ^ n + waitingOf n groups b waits) (eqb (groupOf groups n) b && waitsOf waits n) _ _ _ _ (λ _. omega arith) (λ _. omega arith)
-
-  even : (x y : ℕ) → (x + y * 2) % 2 ≡ x % 2
-  even x y = omega arith
-
-  mask-bit : (n t : ℕ) → t < n → waitingOf n groups b waits / 2 ^ t % 2 ≡ bitOf t
-  mask-bit zero t h = absurd (omega arith)
-  mask-bit (suc n) t h =
-      by-test (eqb t n)
-      (λ q. let d : (bitOf n * 2 ^ n + waitingOf n groups b waits) / 2 ^ n ≡ bitOf n = digits-div (bitOf n) (waiting-lt groups b waits n) in
-      rw (eqb-true t n q, top n, d) (omega (arith, bit-small n)))
-      (λ q. let u = eqb-false t n q in
-      let k : n ≡ (n - t - 1) + 1 + t = omega arith in
-      let p : ℕ = 2 ^ (n - t - 1) in
-      let o : ℕ = bitOf n in
-      let m : ℕ = waitingOf n groups b waits in
-      let e : 2 ^ n ≡ p * 2 * 2 ^ t = ap (λ (x : ℕ). 2 ^ x) k ∙ pow-add 2 (n - t - 1 + 1) t ∙ ap (λ (x : ℕ). x * 2 ^ t) (ap (λ (x : ℕ). 2 ^ x) (add-one (n - t - 1)) ∙ pow-suc 2 (n - t - 1)) in
-      let f : o * 2 ^ n + m ≡ m + o * p * 2 * 2 ^ t = add-comm (o * 2 ^ n) m ∙ ap (λ (x : ℕ). m + x) (ap (λ (x : ℕ). o * x) e ∙ sym (mul-assoc o (p * 2) (2 ^ t)) ∙ ap (λ (x : ℕ). x * 2 ^ t) (sym (mul-assoc o p 2))) in
-      let g : (m + o * p * 2 * 2 ^ t) / 2 ^ t ≡ m / 2 ^ t + o * p * 2 = add-mul-div-right m (o * p * 2) (pow-pos t) in
-      rw (top n, f, g) (even (m / 2 ^ t) (o * p) ∙ mask-bit n t (omega arith)))
-
   member-bit : (n t : ℕ) → t < n → waitingOf n groups b waits / 2 ^ t % 2 ≡ 1 → groupOf groups t ≡ b
   unfolding bitOf
   member-bit n t h e =
       by-test (eqb (groupOf groups t) b) (λ q. eqb-true (groupOf groups t) b q)
-      (λ q. let z : bitOf t ≡ 0 = simp q in absurd (omega (arith, mask-bit n t h)))
+      (λ q. let z : bitOf groups b waits t ≡ 0 = simp q in absurd (omega (arith, mask-bit groups b waits n t h)))
 
 -- ---- after every event
 
-none-waits : (n t : ℕ) → getD (replicate n false) t false ≡ false
+pub none-waits : (n t : ℕ) → getD (replicate n false) t false ≡ false
 none-waits zero t = refl
 none-waits (suc n) zero = refl
 none-waits (suc n) (suc t) = none-waits n t

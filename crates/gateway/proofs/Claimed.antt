@@ -10,8 +10,7 @@ use Rattle.laws.proofs.Choices.{by-cond}
 use Rattle.words.proofs.Dwords.{length-put}
 use Rattle.event.specs.declared.Head.{Head}
 use Rattle.event.specs.declared.Setup.{Setup}
-use Rattle.event.specs.declared.Decision.{Decision}
-use Rattle.event.specs.declared.Decision.the-variants.{Refused, Open, Close, Forward, Wait, Release, Update}
+use Rattle.event.specs.Decision.{Decision, Refused, Open, Close, Forward, Wait, Release, Update}
 use Rattle.event.specs.Head.{headOf}
 use Rattle.event.specs.Codes.{gatewayAt}
 use Rattle.event.specs.Outcomes.{outcomeOf}

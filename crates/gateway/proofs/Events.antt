@@ -11,51 +11,22 @@ use Rattle.laws.proofs.Paste.{paste-before, paste-in, paste-after}
 use Rattle.words.proofs.Dwords.{put-other}
 use Rattle.event.specs.declared.Head.{Head}
 use Rattle.event.specs.declared.Setup.{Setup}
-use Rattle.event.specs.declared.Decision.{Decision}
-use Rattle.event.specs.declared.Decision.the-variants.{Refused, Open, Close, Forward, Wait, Release, Update}
+use Rattle.event.specs.Decision.{Decision, Refused, Open, Close, Forward, Wait, Release, Update}
 use Rattle.event.specs.Head.{headOf}
 use Rattle.event.specs.Codes.{gatewayAt, Window}
 use Rattle.event.specs.Outcomes.{outcomeOf}
 use Rattle.event.specs.Within.{Within}
 use Rattle.event.proofs.Reach.{decision-within}
 use Rattle.event.proofs.Sources.{Source, decision-source}
-use Rattle.effects.specs.declared.State.{State}
-use Rattle.effects.specs.Effects.{gatewaysAfter, bytesAfter, waitsAfter, countsAfter, forwarded, acknowledged, ackPlace, withAck}
-use Rattle.gateway.specs.Replay.{stateAfter, World, decisionIn, stepOf}
+use Rattle.effects.specs.Effects.{forwarded, acknowledged, ackPlace, withAck}
+use Rattle.effects.proofs.Refused.{same-gateways, same-bytes, same-waits, same-counts, same-registers}
+use Rattle.gateway.specs.Replay.{State, stateAfter, World, decisionIn, stepOf}
 use Rattle.gateway.specs.Claims.{Unchanged, forwardPlace, Written}
 
 -- ---- a refused event
 
-module _ (s : Setup) (ev : List ℕ) (w : World) where
-  same-state : (d : Decision) → (outcomeOf d ≡ 0 → ⊥) → stateAfter d s (w .state) ≡ w .state
-  unfolding outcomeOf gatewaysAfter bytesAfter waitsAfter
-  same-state (Refused n) o = refl
-  same-state (Open t b z k) o = absurd (o refl)
-  same-state (Close t) o = absurd (o refl)
-  same-state (Forward r a n m) o = absurd (o refl)
-  same-state (Wait t) o = absurd (o refl)
-  same-state (Release g) o = absurd (o refl)
-  same-state (Update b v) o = absurd (o refl)
-
-  same-counts : (d : Decision) → (outcomeOf d ≡ 0 → ⊥) → countsAfter d s (w .counts) ≡ w .counts
-  unfolding outcomeOf countsAfter
-  same-counts (Refused n) o = refl
-  same-counts (Open t b z k) o = refl
-  same-counts (Close t) o = refl
-  same-counts (Forward r a n m) o = absurd (o refl)
-  same-counts (Wait t) o = refl
-  same-counts (Release g) o = absurd (o refl)
-  same-counts (Update b v) o = refl
-
-  same-registers : (d : Decision) → (outcomeOf d ≡ 0 → ⊥) → forwarded d ev (w .registers) ≡ w .registers
-  unfolding outcomeOf forwarded
-  same-registers (Refused n) o = refl
-  same-registers (Open t b z k) o = refl
-  same-registers (Close t) o = refl
-  same-registers (Forward r a n m) o = absurd (o refl)
-  same-registers (Wait t) o = refl
-  same-registers (Release g) o = refl
-  same-registers (Update b v) o = refl
+same-state : (s : Setup) (w : State) (d : Decision) → (outcomeOf d ≡ 0 → ⊥) → stateAfter d s w ≡ w
+same-state s w d n = λ j. record { gateways = same-gateways d n (w .gateways) j; bytes = same-bytes d n (w .bytes) j; waits = same-waits d n s (w .waits) j }
 
 -- the acknowledgement writes its own dword alone
 pub ack-elsewhere : (h : Head) (o : ℕ) (rs : List ℕ) (p : ℕ) → (p / 4 ≡ ackPlace h → ⊥) → getD (withAck h o rs) p 0 ≡ getD rs p 0
@@ -67,10 +38,10 @@ pub refused-unchanged : (s : Setup) (ev : List ℕ) (i : ℕ) (w : World) → (o
 unfolding stepOf
 refused-unchanged s ev i w n =
     let d = decisionIn s ev (w .state) in
-    let r = ap (withAck (headOf ev) (outcomeOf d)) (same-registers s ev w d n) in
+    let r = ap (withAck (headOf ev) (outcomeOf d)) (same-registers d n ev (w .registers)) in
     record {
-      state = same-state s ev w d n;
-      counts = same-counts s ev w d n;
+      state = same-state s (w .state) d n;
+      counts = same-counts d n s (w .counts);
       outcomes = refl;
       registers = r;
       elsewhere = λ p e. ap (λ (l : List ℕ). getD l p 0) r ∙ ack-elsewhere (headOf ev) (outcomeOf d) (w .registers) p e;

@@ -16,8 +16,7 @@ use Rattle.laws.proofs.Paste.{paste-agree}
 use Rattle.words.specs.Dwords.{putLe}
 use Rattle.event.specs.declared.Head.{Head}
 use Rattle.event.specs.declared.Setup.{Setup}
-use Rattle.event.specs.declared.Decision.{Decision}
-use Rattle.event.specs.declared.Decision.the-variants.{Refused, Open, Close, Forward, Wait, Release, Update}
+use Rattle.event.specs.Decision.{Decision, Refused, Open, Close, Forward, Wait, Release, Update}
 use Rattle.event.specs.Head.{headOf}
 use Rattle.event.specs.Codes.{gatewayAt}
 use Rattle.event.specs.Outcomes.{decisionOf, outcomeOf}
@@ -25,10 +24,9 @@ use Rattle.event.specs.Within.{Within}
 use Rattle.event.proofs.Reach.{decision-within}
 use Rattle.event.proofs.Same.{head-same}
 use Rattle.event.proofs.Sources.{Source, decision-source}
-use Rattle.effects.specs.declared.State.{State}
 use Rattle.gateway.specs.Recording.{threadsOf, bypassOf, eventsOf, strayGroup, strayGroupOf, groupsOf, setupOf, firstEvent, eventAt, refusalOf}
 use Rattle.effects.specs.Effects.{forwarded, acknowledged, ackPlace, withAck, countsAfter}
-use Rattle.gateway.specs.Replay.{stateAfter, World, decisionIn, stepOf, runOf, begun, Replay, refusedAnswer, endAnswer, ended}
+use Rattle.gateway.specs.Replay.{State, stateAfter, World, decisionIn, stepOf, runOf, begun, Replay, refusedAnswer, endAnswer, ended}
 use Rattle.gateway.specs.Claims.{end, met, headAt, outcomeAt, forwardPlace}
 use Rattle.gateway.specs.Isolation.{Own, Data, Alike, Outside, Landed, Isolated}
 use Rattle.gateway.proofs.Accepted.{refused-whole}

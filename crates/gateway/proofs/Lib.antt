@@ -1,10 +1,13 @@
 pub mod Header
 pub mod Turns
+pub mod LeftAlone
 pub mod Bounds
 pub mod Masks
 pub mod Accepted
 pub mod Counts
 pub mod Events
 pub mod Barriers
+pub mod Arrivals
+pub mod Loops
 pub mod Claimed
 pub mod Isolation

@@ -13,10 +13,9 @@ use Rattle.event.specs.Head.{headOf}
 use Rattle.event.specs.Codes.{countOf, gatewayAt}
 use Rattle.event.specs.Groups.{noGroup, groupOf, waitsOf, wholeOf, groupSize}
 use Rattle.event.specs.Outcomes.{isForward, isBarrier, windowStart}
-use Rattle.effects.specs.declared.State.{State}
 use Rattle.gateway.specs.Recording.{threadsOf, eventsOf, setupOf, eventAt}
 use Rattle.effects.specs.Effects.{n0, n2, ackPlace, withAck}
-use Rattle.gateway.specs.Replay.{World, barrierOf, runOf, stepOf, begun, Replay, replayOf}
+use Rattle.gateway.specs.Replay.{State, World, barrierOf, runOf, stepOf, begun, Replay, replayOf}
 
 -- ---- counts
 

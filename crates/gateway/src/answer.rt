@@ -1,47 +1,15 @@
 // What the replay answers.
 ghost use mathlib.Core.Path.{_≡_};
-ghost use Prim.Native.Nat.{_^_, _≤_, _<_};
-ghost use Rattle.gateway.specs.Replay.{waitingOf, barriersOf, refusedAnswer, endAnswer};
+ghost use Rattle.gateway.specs.Replay.{barriersFrom, refusedAnswer};
 use crate::Barrier;
+use crate::Ended;
 use crate::Replayed;
-use effects::State;
 use event::Gateway;
-use event::Setup;
-
-fn bit(t: usize) -> u32
-    requires { ⌜ t < 16 ⌝ }
-    ensures { λ r. ⌜ (r ≡ 2 ^ t) × (r ≤ 32768) ⌝ }
-{
-    1u32 << t
-}
-
-// Who waits at a barrier, a bit for each thread.
-fn waiting(setup: Setup, barrier: u8, waits: [bool; 16]) -> u32
-    requires { ⌜ setup .threads ≤ 16 ⌝ }
-    ensures { λ r. ⌜ r ≡ waitingOf (setup .threads) (setup .groups) barrier waits ⌝ }
-{
-    let threads = setup.threads;
-    let groups = setup.groups;
-    let mut mask: u32 = 0;
-    let mut t = 0;
-    while t < threads {
-        if groups[t] == barrier {
-            if waits[t] {
-                mask = mask + bit(t);
-            }
-        }
-        t += 1;
-    }
-    mask
-}
 
 // The barriers, each with its byte and who waits.
-fn barriers(setup: Setup, state: State) -> [Barrier; 16]
-    requires { ⌜ setup .threads ≤ 16 ⌝ }
-    ensures { λ r. ⌜ r ≡ barriersOf setup state ⌝ }
+fn barriers(bytes: [u32; 16], waiting: [u32; 16]) -> [Barrier; 16]
+    ensures { λ r. ⌜ r ≡ barriersFrom bytes waiting ⌝ }
 {
-    let bytes = state.bytes;
-    let waits = state.waits;
     let mut barriers = [Barrier {
         byte: 0,
         waiting: 0,
@@ -50,7 +18,7 @@ fn barriers(setup: Setup, state: State) -> [Barrier; 16]
     while b < 16 {
         barriers[b] = Barrier {
             byte: bytes[b],
-            waiting: waiting(setup, b as u8, waits),
+            waiting: waiting[b],
         };
         b += 1;
     }
@@ -79,12 +47,13 @@ pub fn refused(number: u32) -> Replayed
 }
 
 // The gateways and the barriers at the end.
-pub fn ended(setup: Setup, state: State) -> Replayed
-    requires { ⌜ setup .threads ≤ 16 ⌝ }
-    ensures { λ r. ⌜ r ≡ endAnswer setup state ⌝ }
+pub fn ended(end: Ended) -> Replayed
+    ensures { λ r. ⌜ r ≡ record { number = 0; gateways = end .gateways; barriers = barriersFrom (end .bytes) (end .waiting) } ⌝ }
 {
-    let gateways = state.gateways;
-    let barriers = barriers(setup, state);
+    let gateways = end.gateways;
+    let bytes = end.bytes;
+    let waiting = end.waiting;
+    let barriers = barriers(bytes, waiting);
     Replayed {
         number: 0,
         gateways,

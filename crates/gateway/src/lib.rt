@@ -24,6 +24,13 @@ pub struct Replayed {
     pub barriers: [Barrier; 16],
 }
 
+// What the events leave beside the lent buffers: the gateways, and each barrier's byte and who waits, bit t for thread t.
+pub struct Ended {
+    pub gateways: [Gateway; 16],
+    pub bytes: [u32; 16],
+    pub waiting: [u32; 16],
+}
+
 // Counts begin at zero.
 fn clear(counts: &mut [u32])
     ensures { λ _. ⌜ now (counts .exit) ≡ replicate (length (now (counts .entry))) 0 ⌝ }
@@ -52,6 +59,6 @@ pub fn replay(
     clear(counts);
     let setup = recording::setup(recording);
     let events = half(recording, 7) as usize;
-    let state = run::run(recording, setup, events, registers, counts, outcomes);
-    answer::ended(setup, state)
+    let end = run::run(recording, setup, events, registers, counts, outcomes);
+    answer::ended(end)
 }

@@ -1,44 +1,46 @@
 use native.Mathlib.Omega.{arith}
-use mathlib.Core.Path.{_∙_}
-use Prim.Native.Nat.{_+_, _*_, _-_}
-use Rattle.effects.proofs.Groups.{not-notified, notified-by}
+use mathlib.Core.Path.{_≡_, _∙_, ap}
+use mathlib.Core.List.{List}
+use Prim.Native.Nat.{ℕ, _+_, _*_}
+use lib.Dec.{eqb}
+use lib.ListN.{getD}
+use Rattle.effects.proofs.Groups.{others-kept, notified-twice}
 use borrow.Author.Needs.{needs}
 use Rattle.effects.proofs.buffers.notify.Statement.{statement}
 use Rattle.effects.proofs.buffers.notify.Tie as tie
 
-returns : tie.Need-returns
-returns c = not-notified _ _ _ (λ e. omega arith) (λ e. omega arith)
+mul-one-more-if : tie.Need-mul-one-more-if
+mul-one-more-if c = search needs
 
-returns-2 : tie.Need-returns-2
-returns-2 c = not-notified _ _ _ (λ e. omega arith) (λ e. omega arith)
+one-more-if-requires : tie.Need-one-more-if-requires
+one-more-if-requires c κs = (omega arith, c .before .before .pre .2 (2 * c .before .before .args .to))
 
-mul-one-more : tie.Need-mul-one-more
-mul-one-more c = search needs
+mul-one-more-if-2 : tie.Need-mul-one-more-if-2
+mul-one-more-if-2 c = search needs
 
-add-one-more : tie.Need-add-one-more
-add-one-more c = search needs
+add-one-more-if : tie.Need-add-one-more-if
+add-one-more-if c = search needs
 
-sub-one-more : tie.Need-sub-one-more
-sub-one-more c = search needs
-
-one-more-requires : tie.Need-one-more-requires
-one-more-requires c κs = (omega arith, c .before .before .before .before .pre .2 (2 * c .before .before .before .before .args .to + c .before .before .before .before .args .notify - 1))
+one-more-if-requires-2 : tie.Need-one-more-if-requires-2
+one-more-if-requires-2 c κs = let a = c .before .before .before .before .before .before .args in
+    let k = 2 * a .to + 1 in
+    let e : getD (c .before .before .before .one-more-if .last .0) k 0 ≡ getD (a .counts .now) k 0 = ap (λ (x : List ℕ). getD x k 0) (c .before .before .before .one-more-if .ensures) ∙ others-kept (eqb (a .notify) 1) (a .counts .now) (2 * a .to) k (λ q. omega arith) in
+    (omega arith, omega (arith, c .before .before .before .before .before .before .pre .2 k))
 
 same-length : tie.Need-same-length
 same-length c = search needs
 
-returns-3 : tie.Need-returns-3
-returns-3 c = c .before .before .one-more .ensures ∙ notified-by (c .before .before .before .before .before .before .before .args .to) (c .before .before .before .before .before .before .before .args .notify) (c .before .before .before .before .before .before .before .args .counts .now) (c .before .before .before .before .before .if1 .left) (omega arith)
+returns : tie.Need-returns
+returns c = notified-twice _ _ _ _ _ (c .before .before .before .before .before .before .one-more-if .ensures) (c .before .before .one-more-if2 .ensures)
 
 pub notify-spec : {M : Type 1} → statement M
 notify-spec =
     tie.close
     (tie.spec
-    returns
-    returns-2
-    mul-one-more
-    add-one-more
-    sub-one-more
-    one-more-requires
+    mul-one-more-if
+    one-more-if-requires
+    mul-one-more-if-2
+    add-one-more-if
+    one-more-if-requires-2
     same-length
-    returns-3)
+    returns)

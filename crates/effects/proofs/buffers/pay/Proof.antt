@@ -1,12 +1,14 @@
 use native.Mathlib.Omega.{arith}
 use native.Mathlib.Nat.{le-antisymm}
 use mathlib.Core.Path.{_≡_, refl, ap, _∙_}
+use mathlib.Core.Bool.{cond}
 use mathlib.Core.List.{List}
-use mathlib.Core.Logic.{⊎-elim}
 use Prim.Native.Nat.{ℕ, _≤_, _-_, _*_}
+use lib.Dec.{eqb}
 use lib.ListN.{length, getD}
+use Rattle.event.specs.Groups.{groupOf}
 use Rattle.effects.specs.Effects.{paid, oneMore}
-use Rattle.effects.proofs.Groups.{paid-long, paid-turn, paid-skip, paid-later}
+use Rattle.effects.proofs.Groups.{paid-long, paid-turn, paid-later}
 use Rattle.effects.proofs.buffers.pay.Statement.{statement}
 use Rattle.effects.proofs.buffers.pay.Tie as tie
 
@@ -20,18 +22,18 @@ loop-holds : tie.Need-loop-holds Inv-loop μ-loop
 unfolding paid
 loop-holds c = (omega arith, refl)
 
-array-read-if1 : tie.Need-array-read-if1 Inv-loop μ-loop
-array-read-if1 c = omega arith
+mul-one-more-if : tie.Need-mul-one-more-if Inv-loop μ-loop
+mul-one-more-if c = omega arith
 
-mul-one-more : tie.Need-mul-one-more Inv-loop μ-loop
-mul-one-more c = omega arith
+array-read-one-more-if : tie.Need-array-read-one-more-if Inv-loop μ-loop
+array-read-one-more-if c = omega arith
 
-one-more-requires : tie.Need-one-more-requires Inv-loop μ-loop
-one-more-requires c κs = let a = c .before .before .before .before .before .before .args in
-    let l = c .before .before .before .loop in
+one-more-if-requires : tie.Need-one-more-if-requires Inv-loop μ-loop
+one-more-if-requires c κs = let a = c .before .before .before .before .before .args in
+    let l = c .before .before .loop in
     let n : length (l .counts) ≡ length (a .counts .now) = ap length (l .inv .1) ∙ paid-long (a .setup .groups) (a .group) (a .counts .now) (l .t) in
     let e : getD (l .counts) (2 * l .t) 0 ≡ getD (a .counts .now) (2 * l .t) 0 = ap (λ (x : List ℕ). getD x (2 * l .t) 0) (l .inv .1) ∙ paid-later (a .setup .groups) (a .group) (a .counts .now) (l .t) (2 * l .t) (omega arith) in
-    (omega arith, omega (arith, c .before .before .before .before .before .before .pre .2 (2 * l .t)))
+    (omega arith, omega (arith, c .before .before .before .before .before .pre .2 (2 * l .t)))
 
 add-t : tie.Need-add-t Inv-loop μ-loop
 add-t c = omega arith
@@ -40,12 +42,12 @@ loop-less : tie.Need-loop-less Inv-loop μ-loop
 loop-less c = omega arith
 
 loop-again : tie.Need-loop-again Inv-loop μ-loop
-loop-again c = let a = c .before .before .before .before .before .args in
-    let l = c .before .before .loop in (
+loop-again c = let a = c .before .before .before .before .before .before .before .before .args in
+    let l = c .before .before .before .before .before .loop in (
       omega arith,
-      ⊎-elim
-          (λ w. w .5 ∙ w .2 .ensures ∙ ap (λ (x : List ℕ). oneMore x (2 * l .t)) (l .inv .1) ∙ paid-turn (a .setup .groups) (a .group) (a .counts .now) (l .t) (w .0 .taken))
-          (λ w. w .1 ∙ l .inv .1 ∙ paid-skip (a .setup .groups) (a .group) (a .counts .now) (l .t) (w .0 .left)) (c .if1 .came),
+      c .before .before .one-more-if .ensures
+          ∙ ap (λ (x : List ℕ). cond (eqb (groupOf (a .setup .groups) (l .t)) (a .group)) (oneMore x (2 * l .t)) x) (l .inv .1)
+          ∙ paid-turn (a .setup .groups) (a .group) (a .counts .now) (l .t),
     )
 
 same-length : tie.Need-same-length Inv-loop μ-loop
@@ -61,9 +63,9 @@ pay-spec =
     Inv-loop
     μ-loop
     loop-holds
-    array-read-if1
-    mul-one-more
-    one-more-requires
+    mul-one-more-if
+    array-read-one-more-if
+    one-more-if-requires
     add-t
     loop-less
     loop-again

@@ -1,72 +1,57 @@
 use native.Mathlib.Omega.{arith}
-use native.Mathlib.Nat.{le-antisymm}
-use mathlib.Core.Path.{_≡_, refl, sym, ap, _∙_}
-use mathlib.Core.List.{List}
-use Prim.Native.Nat.{ℕ, _≤_, _-_, _+_}
-use native.Mathlib.Numerals.{add-one}
-use lib.ListN.{length, drop, set, getD, length-set, length-drop}
-use lib.Seq.{paste, paste-zero, paste-suc, getD-drop}
+use lib.ListN.{drop, length-drop}
+use Rattle.effects.proofs.Stores.{put-back}
+use borrow.Author.Needs.{needs}
 use Rattle.effects.proofs.buffers.write.Statement.{statement}
 use Rattle.effects.proofs.buffers.write.Tie as tie
 
-abbrev Inv-loop : tie.InvT-loop
-Inv-loop registers₀ at event count i₀ registers i = (i ≤ count) × (registers ≡ paste registers₀ at (drop 16 event) i) × (length registers ≡ length registers₀)
+add-end : tie.Need-add-end
+add-end c = search needs
 
-abbrev μ-loop : tie.MeasureT-loop
-μ-loop registers₀ at event count i₀ registers i = count - i
+sub-if2 : tie.Need-sub-if2
+sub-if2 c = search needs
 
-loop-holds : tie.Need-loop-holds Inv-loop μ-loop
-loop-holds c = (omega arith, paste-zero (c .args .registers .now) (c .args .at) (drop 16 (c .args .event .now)), refl)
+load-requires : tie.Need-load-requires
+load-requires c κs = search needs
 
-add-registers : tie.Need-add-registers Inv-loop μ-loop
-add-registers c = omega arith
+load-requires-2 : tie.Need-load-requires-2
+load-requires-2 c κs = search needs
 
-shared-slice-read-registers : tie.Need-shared-slice-read-registers Inv-loop μ-loop
-shared-slice-read-registers c = omega arith
+store-requires : tie.Need-store-requires
+store-requires c κs = search needs
 
-add-registers-2 : tie.Need-add-registers-2 Inv-loop μ-loop
-add-registers-2 c = omega arith
+store-requires-2 : tie.Need-store-requires-2
+store-requires-2 c κs = search needs
 
-slice-write-registers : tie.Need-slice-write-registers Inv-loop μ-loop
-slice-write-registers c = omega arith
+same-length : tie.Need-same-length
+same-length c = search needs
 
-add-i : tie.Need-add-i Inv-loop μ-loop
-add-i c = omega arith
+returns : tie.Need-returns
+returns c = let a = c .before .before .before .before .before .before .before .before .before .before .before .before .before .before .before .args in
+    put-back (a .registers .now) (a .at) (drop 16 (a .event .now)) (a .count) (omega arith) (omega arith) (simp length-drop (omega arith)) _ _ _ _
+    (c .before .before .before .before .before .before .before .before .load2 .ensures) (c .before .before .before .before .before .before .before .before .before .load .ensures) (c .before .before .before .before .before .before .store .ensures) (c .before .before .store2 .ensures)
 
-loop-less : tie.Need-loop-less Inv-loop μ-loop
-loop-less c = omega arith
+copy-requires : tie.Need-copy-requires
+copy-requires c κs = search needs
 
-loop-again : tie.Need-loop-again Inv-loop μ-loop
-loop-again c = let l = c .before .before .loop in
-    let a = c .before .before .before .args in
-    let s = drop 16 (a .event .now) in (
-      omega arith,
-      ap (λ (d : List ℕ). set d (a .at + l .i) (getD (a .event .now) (16 + l .i) 0)) (l .inv .1)
-          ∙ ap (λ (v : ℕ). set (paste (a .registers .now) (a .at) s (l .i)) (a .at + l .i) v) (sym (getD-drop 16 (a .event .now) (l .i) 0))
-          ∙ paste-suc (a .registers .now) (a .at) s (l .i) 0 (omega arith) (simp length-drop (omega arith))
-          ∙ ap (λ (k : ℕ). paste (a .registers .now) (a .at) s k) (sym (add-one (l .i))),
-      simp length-set (l .inv .2),
-    )
+same-length-2 : tie.Need-same-length-2
+same-length-2 c = search needs
 
-same-length : tie.Need-same-length Inv-loop μ-loop
-same-length c = c .before .loop .inv .2
-
-returns : tie.Need-returns Inv-loop μ-loop
-returns c = let a = c .before .before .args in c .before .loop .inv .1 ∙ ap (λ (k : ℕ). paste (a .registers .now) (a .at) (drop 16 (a .event .now)) k) (le-antisymm (c .before .loop .inv .0) (c .loop-test .left))
+returns-2 : tie.Need-returns-2
+returns-2 c = search needs
 
 pub write-spec : {M : Type 1} → statement M
 write-spec =
     tie.close
     (tie.spec
-    Inv-loop
-    μ-loop
-    loop-holds
-    add-registers
-    shared-slice-read-registers
-    add-registers-2
-    slice-write-registers
-    add-i
-    loop-less
-    loop-again
+    add-end
+    sub-if2
+    load-requires
+    load-requires-2
+    store-requires
+    store-requires-2
     same-length
-    returns)
+    returns
+    copy-requires
+    same-length-2
+    returns-2)

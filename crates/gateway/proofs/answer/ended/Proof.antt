@@ -1,3 +1,7 @@
+use mathlib.Core.Path.{_≡_}
+use mathlib.Core.List.{List}
+use Rattle.gateway.specs.declared.Barrier.{Barrier}
+use Rattle.gateway.specs.declared.Replayed.{Replayed}
 use borrow.Author.Needs.{needs}
 use Rattle.gateway.proofs.answer.ended.Statement.{statement}
 use Rattle.gateway.proofs.answer.ended.Tie as tie
@@ -6,7 +10,7 @@ barriers-requires : tie.Need-barriers-requires
 barriers-requires c κs = search needs
 
 returns : tie.Need-returns
-returns c = λ j. record { number = 0; gateways = c .before .before .args .state .gateways; barriers = c .barriers .ensures j }
+returns c = λ j. record { number = 0; gateways = c .before .before .before .before .args .end .gateways; barriers = c .barriers .ensures j }
 
 pub ended-spec : {M : Type 1} → statement M
 ended-spec = tie.close (tie.spec barriers-requires returns)

@@ -1,0 +1,113 @@
+use mathlib.Core.Path.{sym, _∙_}
+use Rattle.effects.specs.Barriers.{slotOf}
+use Rattle.effects.proofs.Arrivals.{left-31, left-38, left-39, left-whole, left-waits}
+use native.Mathlib.Omega.{arith}
+use Rattle.event.proofs.Formed.{formed-sender}
+use borrow.Author.Needs.{needs}
+use Rattle.effects.proofs.barriers.arrive.Statement.{statement}
+use Rattle.effects.proofs.barriers.arrive.Tie as tie
+
+is-malformed-requires : tie.Need-is-malformed-requires
+is-malformed-requires c κs = search needs
+
+returns : tie.Need-returns
+returns c = left-31 (c .before .before .before .before .before .args .h) (c .before .before .before .before .before .args .setup) (c .before .before .before .before .before .args .members .now) (c .before .before .before .before .before .args .waiting .now) (c .before .before .before .before .before .args .counts .now) (c .before .before .before .before .before .pre .0) (sym (c .before .is-malformed .ensures) ∙ c .if1 .taken)
+
+array-read-group : tie.Need-array-read-group
+array-read-group c = omega (arith, formed-sender _ _ _ (sym (c .before .before .is-malformed .ensures) ∙ c .before .if1 .left))
+
+returns-2 : tie.Need-returns-2
+returns-2 c = left-38 (c .before .before .before .before .before .before .before .args .h) (c .before .before .before .before .before .before .before .args .setup) (c .before .before .before .before .before .before .before .args .members .now) (c .before .before .before .before .before .before .before .args .waiting .now) (c .before .before .before .before .before .before .before .args .counts .now) (c .before .before .before .before .before .before .before .pre .0) (sym (c .before .before .before .is-malformed .ensures) ∙ c .before .before .if1 .left) (c .if2 .taken)
+
+cast-b : tie.Need-cast-b
+cast-b c = search needs
+
+mul-has : tie.Need-mul-has
+mul-has c = search needs
+
+slice-read-has : tie.Need-slice-read-has
+slice-read-has c = search needs
+
+has-requires : tie.Need-has-requires
+has-requires c κs = omega (arith, formed-sender _ _ _ (sym (c .before .before .before .before .is-malformed .ensures) ∙ c .before .before .before .if1 .left))
+
+returns-3 : tie.Need-returns-3
+returns-3 c = left-39 (c .before .before .before .before .before .before .before .before .before .before .args .h) (c .before .before .before .before .before .before .before .before .before .before .args .setup) (c .before .before .before .before .before .before .before .before .before .before .args .members .now) (c .before .before .before .before .before .before .before .before .before .before .args .waiting .now) (c .before .before .before .before .before .before .before .before .before .before .args .counts .now) (c .before .before .before .before .before .before .before .before .before .before .pre .0) (sym (c .before .before .before .before .before .before .is-malformed .ensures) ∙ c .before .before .before .before .before .if1 .left) (c .before .before .before .if2 .left) (sym (c .before .has .ensures) ∙ c .if3 .taken)
+
+mul-arrived : tie.Need-mul-arrived
+mul-arrived c = search needs
+
+slice-read-arrived : tie.Need-slice-read-arrived
+slice-read-arrived c = search needs
+
+bit-requires : tie.Need-bit-requires
+bit-requires c κs = omega (arith, formed-sender _ _ _ (sym (c .before .before .before .before .before .before .before .is-malformed .ensures) ∙ c .before .before .before .before .before .before .if1 .left))
+
+add-arrived : tie.Need-add-arrived
+add-arrived c = omega (arith, c .before .before .before .before .before .before .before .before .before .before .before .before .pre .4 (slotOf (c .before .before .before .before .before .before .before .before .before .before .before .before .args .h) (c .before .before .before .before .before .before .before .before .before .before .before .before .args .setup)), c .bit .ensures .1)
+
+mul-if4 : tie.Need-mul-if4
+mul-if4 c = search needs
+
+shared-slice-read-if4 : tie.Need-shared-slice-read-if4
+shared-slice-read-if4 c = search needs
+
+pay-requires : tie.Need-pay-requires
+pay-requires c κs = search needs
+
+mul-waiting : tie.Need-mul-waiting
+mul-waiting c = search needs
+
+slice-write-waiting : tie.Need-slice-write-waiting
+slice-write-waiting c = search needs
+
+same-length : tie.Need-same-length
+same-length c = search needs
+
+same-length-2 : tie.Need-same-length-2
+same-length-2 c = search needs
+
+returns-4 : tie.Need-returns-4
+returns-4 c = left-whole (c .before .before .before .before .before .before .before .before .before .before .before .before .before .before .before .before .before .before .args .h) (c .before .before .before .before .before .before .before .before .before .before .before .before .before .before .before .before .before .before .args .setup) (c .before .before .before .before .before .before .before .before .before .before .before .before .before .before .before .before .before .before .args .members .now) (c .before .before .before .before .before .before .before .before .before .before .before .before .before .before .before .before .before .before .args .waiting .now) (c .before .before .before .before .before .before .before .before .before .before .before .before .before .before .before .before .before .before .args .counts .now) (c .before .before .before .before .before .before .before .before .before .before .before .before .before .before .before .before .before .before .pre .0) (sym (c .before .before .before .before .before .before .before .before .before .before .before .before .before .before .is-malformed .ensures) ∙ c .before .before .before .before .before .before .before .before .before .before .before .before .before .if1 .left) (c .before .before .before .before .before .before .before .before .before .before .before .if2 .left) (sym (c .before .before .before .before .before .before .before .before .before .has .ensures) ∙ c .before .before .before .before .before .before .before .before .if3 .left) (c .before .before .before .before .before .before .bit .ensures .0) (c .before .before .before .before .if4 .taken) (c .before .before .pay .ensures)
+
+mul-waiting-2 : tie.Need-mul-waiting-2
+mul-waiting-2 c = search needs
+
+slice-write-waiting-2 : tie.Need-slice-write-waiting-2
+slice-write-waiting-2 c = search needs
+
+same-length-3 : tie.Need-same-length-3
+same-length-3 c = search needs
+
+returns-5 : tie.Need-returns-5
+returns-5 c = left-waits (c .before .before .before .before .before .before .before .before .before .before .before .before .before .before .args .h) (c .before .before .before .before .before .before .before .before .before .before .before .before .before .before .args .setup) (c .before .before .before .before .before .before .before .before .before .before .before .before .before .before .args .members .now) (c .before .before .before .before .before .before .before .before .before .before .before .before .before .before .args .waiting .now) (c .before .before .before .before .before .before .before .before .before .before .before .before .before .before .args .counts .now) (c .before .before .before .before .before .before .before .before .before .before .before .before .before .before .pre .0) (sym (c .before .before .before .before .before .before .before .before .before .before .is-malformed .ensures) ∙ c .before .before .before .before .before .before .before .before .before .if1 .left) (c .before .before .before .before .before .before .before .if2 .left) (sym (c .before .before .before .before .before .has .ensures) ∙ c .before .before .before .before .if3 .left) (c .before .before .bit .ensures .0) (c .if4 .left)
+
+pub arrive-spec : {M : Type 1} → statement M
+arrive-spec =
+    tie.close
+    (tie.spec
+    is-malformed-requires
+    returns
+    array-read-group
+    returns-2
+    cast-b
+    mul-has
+    slice-read-has
+    has-requires
+    returns-3
+    mul-arrived
+    slice-read-arrived
+    bit-requires
+    add-arrived
+    mul-if4
+    shared-slice-read-if4
+    pay-requires
+    mul-waiting
+    slice-write-waiting
+    same-length
+    same-length-2
+    returns-4
+    mul-waiting-2
+    slice-write-waiting-2
+    same-length-3
+    returns-5)

@@ -1,0 +1,23 @@
+use mathlib.Core.Path.{refl, sym, ap, _∙_}
+use Rattle.event.specs.Outcomes.{outcomeOf}
+use Rattle.event.proofs.Formed.{formed-kind}
+use Rattle.event.proofs.Rules.{left-over}
+use Rattle.event.proofs.ByKind.{outcome-31, outcome-ruled}
+use borrow.Author.Needs.{needs}
+use Rattle.event.proofs.outcomes.other_outcome.Statement.{statement}
+use Rattle.event.proofs.outcomes.other_outcome.Tie as tie
+
+is-malformed-requires : tie.Need-is-malformed-requires
+is-malformed-requires c κs = search needs
+
+returns : tie.Need-returns
+returns c = outcome-31 _ _ _ _ (sym (c .before .is-malformed .ensures) ∙ c .if1 .taken)
+
+returns-2 : tie.Need-returns-2
+unfolding outcomeOf
+returns-2 c = let f = sym (c .before .is-malformed .ensures) ∙ c .if1 .left in
+    let p = c .before .before .pre in
+    outcome-ruled _ _ _ _ _ refl f (ap outcomeOf (left-over _ _ _ _ _ (formed-kind _ _ _ f) (p .2) (p .3) (p .0) (p .1) (p .4)))
+
+pub other-outcome-spec : {M : Type 1} → statement M
+other-outcome-spec = tie.close (tie.spec is-malformed-requires returns returns-2)
