@@ -4,7 +4,7 @@ ghost use mathlib.Core.Path.{_≡_};
 ghost use mathlib.Core.List.{[]};
 ghost use Prim.Native.Nat.{_<_, _≤_};
 ghost use Rattle.event.specs.Codes.{closed, countOf, Window};
-ghost use Rattle.event.specs.Outcomes.{malformed, decisionOf, outcomeOf};
+ghost use Rattle.event.specs.Outcomes.{decisionOf, outcomeOf};
 ghost use Rattle.event.specs.Gateways.{gatewayLeft};
 use crate::Gateway;
 use crate::Head;

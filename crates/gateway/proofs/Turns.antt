@@ -2,11 +2,11 @@
 use mathlib.Core.Path.{_≡_, refl, sym, ap, ap₂, _∙_}
 use mathlib.Core.Bool.{Bool}
 use mathlib.Core.List.{List}
-use Prim.Native.Nat.{ℕ, _+_, _*_, _-_, _≤_, _<_}
+use Prim.Native.Nat.{ℕ, _+_, _*_, _-_, _≤_}
 use native.Mathlib.Nat.{add-sub-cancel-left}
 use native.Mathlib.Numerals.{add-one}
 use native.Mathlib.Omega.{arith}
-use lib.ListN.{length, getD, set, take, drop, length-take, length-drop, length-set, List·getD-eq-default}
+use lib.ListN.{length, set, take, drop, length-take, length-drop, length-set, List·getD-eq-default}
 use Rattle.event.specs.declared.Setup.{Setup}
 use Rattle.event.specs.declared.Gateway.{Gateway}
 use Rattle.event.specs.Decision.{Decision, Refused, Open, Close, Forward, Wait, Release, Update}

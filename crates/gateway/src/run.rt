@@ -1,6 +1,5 @@
 // The events of a recording, one after the other.
 ghost use Prim.Native.Nat.{_<_};
-ghost use lib.ListN.{length};
 ghost use Rattle.gateway.specs.Replay.{runOf, start, Running, Kept};
 use crate::Ended;
 use effects::barriers::members;

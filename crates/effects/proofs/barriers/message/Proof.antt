@@ -1,13 +1,9 @@
-use mathlib.Core.Path.{_≡_, refl, sym, ap, subst, _∙_}
-use mathlib.Core.List.{List, []}
-use Prim.Native.Nat.{ℕ}
+use mathlib.Core.Path.{_≡_, sym, _∙_}
+use mathlib.Core.List.{[]}
 use native.Mathlib.Omega.{arith}
-use Rattle.event.specs.Decision.{Decision}
 use Rattle.event.specs.Codes.{closed}
 use Rattle.event.specs.Outcomes.{decisionOf, outcomeOf}
 use Rattle.event.proofs.ByKind.{other-refused, uncounted}
-use Rattle.effects.specs.Effects.{bytesAfter, countsAfter}
-use Rattle.effects.specs.Barriers.{slotOf, arrivalOf, waitingAfter}
 use Rattle.effects.proofs.Acks.{ack-place, no-ack}
 use Rattle.effects.proofs.Refused.{same-bytes, same-counts, same-waiting}
 use Rattle.effects.proofs.Arrivals.{message-left, as-arrival, as-other, arrival-bytes, arrival-formed, update-waiting, update-counts}

@@ -1,9 +1,9 @@
-use mathlib.Core.Path.{_≡_, sym, ap, _∙_}
+use mathlib.Core.Path.{sym, ap, _∙_}
 use mathlib.Core.List.{[]}
 use native.Mathlib.Omega.{arith}
 use Rattle.event.specs.Decision.{Decision}
 use Rattle.event.specs.Codes.{closed}
-use Rattle.event.specs.Outcomes.{decisionOf, outcomeOf}
+use Rattle.event.specs.Outcomes.{decisionOf}
 use Rattle.effects.specs.Effects.{bytesAfter}
 use Rattle.effects.proofs.Refused.{same-bytes}
 use Rattle.effects.proofs.Arrivals.{updated, update-below}

@@ -1,4 +1,4 @@
-use borrow.Author.Tests.{eq-eqb, ne-eqb, not-true, not-false}
+use borrow.Author.Tests.{eq-eqb, ne-eqb}
 use Rattle.event.proofs.outcomes.gateway_left.Statement.{statement}
 use Rattle.event.proofs.outcomes.gateway_left.Tie as tie
 

@@ -1,7 +1,3 @@
-use mathlib.Core.Path.{_≡_}
-use mathlib.Core.List.{List}
-use Rattle.gateway.specs.declared.Barrier.{Barrier}
-use Rattle.gateway.specs.declared.Replayed.{Replayed}
 use borrow.Author.Needs.{needs}
 use Rattle.gateway.proofs.answer.ended.Statement.{statement}
 use Rattle.gateway.proofs.answer.ended.Tie as tie

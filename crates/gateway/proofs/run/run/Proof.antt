@@ -1,6 +1,5 @@
 use Rattle.gateway.proofs.Loops.{Going, forward-turn, gateway-turn, message-turn}
 use Rattle.gateway.proofs.Turns.{no-gateway}
-use Rattle.event.specs.Codes.{gatewayAt}
 use Rattle.gateway.proofs.Arrivals.{none-yet, sixteen-masks, sixteen-members, masks-low}
 use Rattle.gateway.proofs.LeftAlone.{passed-sender}
 use mathlib.Core.List.{[]}
@@ -10,11 +9,10 @@ use Rattle.gateway.proofs.Bounds.{closed-window, start-windows, met-win
 use borrow.Author.Needs.{needs}
 use native.Mathlib.Omega.{arith}
 use native.Mathlib.Nat.{le-antisymm}
-use mathlib.Core.Path.{_≡_, refl, sym, ap, subst, _∙_}
+use mathlib.Core.Path.{refl, sym, ap, subst, _∙_}
 use mathlib.Core.Logic.{⊎-elim, inl, inr}
-use mathlib.Core.List.{List}
-use Prim.Native.Nat.{ℕ, _≤_, _<_, _-_, _+_, _*_}
-use lib.ListN.{length, getD, set, length-set}
+use Prim.Native.Nat.{ℕ, _-_, _+_, _*_}
+use lib.ListN.{length, set}
 use Rattle.gateway.specs.Replay.{World, runOf, start, Kept}
 use Rattle.gateway.proofs.Turns.{part-is, part-long}
 use Rattle.gateway.proofs.run.run.Statement.{statement}
