@@ -1,13 +1,13 @@
 -- No delta leads further than 8. Assumes nothing.
-use mathlib.Core.Path.{_≡_, refl}
+use mathlib.Core.Path.{_≡_, refl, sym, _∙_}
 use mathlib.Core.Bool.{Bool, true, false, _&&_}
-use Prim.Native.Nat.{ℕ, suc, _+_, _-_, _<_, _≤_}
+use Prim.Native.Nat.{ℕ, suc, _+_, _-_, _^_, _<_, _≤_}
 use native.Mathlib.Nat.{le-refl}
 use native.Mathlib.Omega.{arith}
 use lib.Dec.{ltb, leb}
 use lib.IntN.{ℤ, pos, negsuc}
 use lib.Signed.{mag}
-use borrow.Author.Tests.{ne-eqb, le-leb, lt-leb, ltb-false, leb-false}
+use borrow.Author.Tests.{ne-eqb, lt-ltb, le-ltb, le-leb, lt-leb, ltb-true, ltb-false, leb-false}
 use Rattle.laws.proofs.Find.{none}
 use Rattle.deltas.specs.Deltas.{deltaX, deltaY}
 use Rattle.deltas.specs.InPlay.{bitSet}
@@ -16,13 +16,21 @@ use Rattle.deltas.specs.Lowest.{leadsAt, lowestAt, nearAt}
 use Rattle.deltas.proofs.Nibbles.{x-small, y-small}
 
 -- what `near` shows
-pub near-below : (x to : ℕ) → to + 8 < x → false ≡ nearAt x to
+pub near-below : (x to : ℕ) → x < 2 ^ 32 → to + (4294967304 - x) < 4294967296 → false ≡ nearAt x to
 unfolding nearAt
-near-below x to h = simp (lt-leb x (to + 8) h)
+near-below x to h l = let g : to + 8 < x = omega arith in simp (lt-leb x (to + 8) g)
 
-pub near-above : (x to : ℕ) → x ≤ to + 8 → ltb to (x + 8) ≡ nearAt x to
+pub near-above : (x to : ℕ) → x < 2 ^ 32 → 4294967296 ≤ to + (4294967304 - x) → ltb (to + (4294967304 - x)) 4294967312 ≡ nearAt x to
 unfolding nearAt
-near-above x to h = simp (le-leb x (to + 8) h)
+near-above x to h l = let g : x ≤ to + 8 = omega arith in simp (le-leb x (to + 8) g) (go (ltb to (x + 8)) refl)
+  where
+    go : (t : Bool) → ltb to (x + 8) ≡ t → ltb (to + (4294967304 - x)) 4294967312 ≡ ltb to (x + 8)
+    go true p =
+        let q : to < x + 8 = ltb-true to (x + 8) p in
+        lt-ltb (to + (4294967304 - x)) 4294967312 (omega arith) ∙ sym p
+    go false p =
+        let q : x + 8 ≤ to = ltb-false to (x + 8) p in
+        le-ltb (to + (4294967304 - x)) 4294967312 (omega arith) ∙ sym p
 
 -- off on one side or on the other
 sides : (a b : Bool) → a && b ≡ false → {C : Type 0} → (a ≡ false → C) → (b ≡ false → C) → C

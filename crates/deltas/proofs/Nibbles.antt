@@ -59,9 +59,12 @@ by-half z w d h l e f g =
     ∙ toZ-ofZ {w = w32} {z = deltaOf (field (bits 3 0) (w / 2 ^ l))} (record { sfits = omega (arith, delta-mag (field (bits 3 0) (w / 2 ^ l)) (low-half (w / 2 ^ l))) })
     ∙ ap deltaOf (shifted h l w f ∙ ap (field (bits h l)) e)
 
+pub half-small : (h l d : ℕ) → h ≡ l + 3 → field (bits h l) d < 16
+half-small h l d e = subst (λ (n : ℕ). n < 16) (shifted h l d e) (low-half (d / 2 ^ l))
+
 -- a delta is from -8 to 7, and fits 32 bits
 small : (h l d : ℕ) → h ≡ l + 3 → mag (deltaOf (field (bits h l) d)) < 8
-small h l d e = delta-mag (field (bits h l) d) (subst (λ (n : ℕ). n < 16) (shifted h l d e) (low-half (d / 2 ^ l)))
+small h l d e = delta-mag (field (bits h l) d) (half-small h l d e)
 
 module _ (d6 d7 i : ℕ) where
   pub x-small : mag (deltaX d6 d7 i) < 8

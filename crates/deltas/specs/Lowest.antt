@@ -1,9 +1,10 @@
 -- The lowest delta by the code's numbers: a mask of eight, and VFE dwords 6 and 7. `lowest-at` of scoreboard/proofs/Lowest.antt shows that it is
 -- the lowest delta of the objects.
-use Prim.Native.Nat.{ℕ, _+_}
+use Prim.Native.Nat.{ℕ, _+_, _-_, _%_, _^_}
 use mathlib.Core.Bool.{Bool, _&&_}
-use lib.Dec.{ltb, leb}
-use Rattle.deltas.specs.Deltas.{deltaX, deltaY}
+use lib.Dec.{ltb, leb, eqb}
+use Rattle.laws.specs.BitRanges.{bits, field}
+use Rattle.deltas.specs.Deltas.{deltaDword, byteLow, deltaX, deltaY}
 use Rattle.deltas.specs.InPlay.{bitSet}
 use Rattle.deltas.specs.Meets.{meetsAt}
 use Rattle.laws.specs.Find.{findFirst}
@@ -17,3 +18,17 @@ lowestAt x y mask d6 d7 jx jy = findFirst 8 (leadsAt x y mask d6 d7 jx jy)
 -- can a delta lead from one coordinate to another? It is from -8 to 7. `far-x` and `far-y` of proofs/Far.antt show that none leads further.
 unfoldable pub nearAt : ℕ → ℕ → Bool
 nearAt x to = leb x (to + 8) && ltb to (x + 8)
+
+-- The code searches by bytes; `lowest-found` and `lowest-none` of proofs/Bytes.antt show that this finds the same delta. The byte of delta i:
+unfoldable pub deltaByte : ℕ → ℕ → ℕ → ℕ
+deltaByte d6 d7 i = field (bits (byteLow i + 7) (byteLow i)) (deltaDword d6 d7 i)
+
+-- the half byte of a delta from one coordinate to another: their difference modulo 16
+unfoldable pub halfTo : ℕ → ℕ → ℕ
+halfTo x to = (to + (2 ^ 32 - x)) % 16
+
+unfoldable pub isByte : ℕ → ℕ → ℕ → ℕ → ℕ → Bool
+isByte mask d6 d7 byte i = bitSet i mask && eqb (deltaByte d6 d7 i) byte
+
+unfoldable pub lowestByte : ℕ → ℕ → ℕ → ℕ → ℕ
+lowestByte mask d6 d7 byte = findFirst 8 (isByte mask d6 d7 byte)

@@ -2,6 +2,7 @@
 ghost use mathlib.Core.Path.{_≡_};
 ghost use Rattle.laws.specs.BitRanges.{bits, field};
 ghost use Rattle.deltas.specs.Deltas.{deltaOf, deltaDword, deltaX, deltaY};
+ghost use Rattle.deltas.specs.Lowest.{deltaByte};
 
 // Four-bit two's complement numbers, by their bits.
 const DELTAS: [i32; 16] = [0, 1, 2, 3, 4, 5, 6, 7, -8, -7, -6, -5, -4, -3, -2, -1];
@@ -33,4 +34,11 @@ pub fn delta_y(d6: u32, d7: u32, i: u32) -> i32
     ensures { λ r. ⌜ r ≡ deltaY d6 d7 i ⌝ }
 {
     delta(delta_dword(d6, d7, i) >> (8 * (i % 4) + 4))
+}
+
+// The byte of delta i: X in the low half, Y in the high.
+pub fn delta_byte(d6: u32, d7: u32, i: u32) -> u32
+    ensures { λ r. ⌜ r ≡ deltaByte d6 d7 i ⌝ }
+{
+    (delta_dword(d6, d7, i) >> (8 * (i % 4))) & 0xff
 }

@@ -77,7 +77,7 @@ module _ (d : List ℕ) (r own d5 : ℕ) (u : Bool) (eo : own ≡ wordAt d r 4) 
     delta-there i jx jy q ex ey e =
         e ∙ ap₂ (lowestAt (c .x) (c .y) (c .mask) (c .d6) (c .d7)) ex ey ∙ simp (used q, eq-eqb (wordAt d r 9) (c .colour) (sym ec ∙ same))
 
--- the tests of 25 that need less: other colours, and what is too far off
+-- the tests of 25 that need less: other colours, what is too far off, and no delta that leads there
 pub delta-other : (d : List ℕ) (r : ℕ) (c : Candidate) (colour : ℕ) → colour ≡ wordAt d r 9 → (colour ≡ c .colour → ⊥) → 8 ≡ deltaTo d c r
 unfolding deltaTo
 delta-other d r c colour e n = go (usesScoreboard (wordAt d r 4) (vfeWordAt d r 8)) (ne-eqb (wordAt d r 9) (c .colour) (λ z. n (e ∙ z)))
@@ -103,6 +103,13 @@ module _ (d : List ℕ) (r : ℕ) (c : Candidate) (b : Bool) where
   delta-far-y jy ey eb q =
       either (usesScoreboard (wordAt d r 4) (vfeWordAt d r 8) && eqb (wordAt d r 9) (c .colour)) _
       (far-y (c .x) (c .y) (c .mask) (c .d6) (c .d7) (wordAt d r 7) (wordAt d r 8) (ap (nearAt (c .y)) (sym ey) ∙ sym eb ∙ not-true b q))
+
+pub delta-none : (d : List ℕ) (r : ℕ) (c : Candidate) (i jx jy : ℕ) → jx ≡ wordAt d r 7 → jy ≡ wordAt d r 8 → i ≡ lowestAt (c .x) (c .y) (c .mask) (c .d6) (c .d7) jx jy → i ≡ 8
+    → 8 ≡ deltaTo d c r
+unfolding deltaTo
+delta-none d r c i jx jy ex ey e q =
+    either (usesScoreboard (wordAt d r 4) (vfeWordAt d r 8) && eqb (wordAt d r 9) (c .colour)) _
+    (sym (ap₂ (lowestAt (c .x) (c .y) (c .mask) (c .d6) (c .d7)) ex ey) ∙ sym e ∙ q)
 
 pub delta-finished : (d : List ℕ) (c : Candidate) (r s : ℕ) → s ≡ 2 → 8 ≡ deltaIn d c r s
 unfolding deltaIn

@@ -11,6 +11,7 @@ use borrow.Author.Tests.{eq-eqb, ne-eqb, lt-ltb, le-ltb}
 use Rattle.laws.specs.Find.{findFirst, NoneBelow}
 use Rattle.laws.proofs.Find.{none-next, found, none}
 use Rattle.scoreboard.specs.declared.Candidate.{Candidate}
+use Rattle.scoreboard.specs.declared.Verdict.{Verdict}
 use Rattle.scoreboard.specs.Objects.{Delta, Object, meets, objectWith}
 use Rattle.scoreboard.specs.Run.{objectAt, stateAt, lowestOf, waitsFor, lowestWaited, lowestDelta, lowestWaiting, verdict}
 use Rattle.scoreboard.specs.Recorded.{wordAt, vfeWordAt, objectRecorded, objectsRecorded, objectFrom, Spotted, Holds, candidateOf, deltaTo, deltaIn}
@@ -128,11 +129,11 @@ module _ (d : List ℕ) (n : ℕ) (states : List ℕ) (k own j at r s i : ℕ) (
   pub waits-next : 8 ≤ i → NoneBelow (waitsFor (objectsRecorded d 0 n) states k) (j + 1)
   waits-next q = none-next (waitsFor (objectsRecorded d 0 n) states k) j off (waits-is ∙ le-ltb i 8 q)
 
-pub waits-none : (objects : List Object) (states : List ℕ) (k j : ℕ) → NoneBelow (waitsFor objects states k) j → k ≤ j → verdict 0 0 0 ≡ waitVerdict objects states k
+pub waits-none : (objects : List Object) (states : List ℕ) (k j : ℕ) (v : Verdict) → NoneBelow (waitsFor objects states k) j → k ≤ j → v ≡ verdict 0 0 0 → v ≡ waitVerdict objects states k
 unfolding waitVerdict lowestWaited
-waits-none objects states k j off h =
+waits-none objects states k j v off h q =
     let e = none (waitsFor objects states k) k j h off in
     let l : k ≤ findFirst k (waitsFor objects states k) = omega arith in
-    simp (le-ltb (findFirst k (waitsFor objects states k)) k l)
+    q ∙ simp (le-ltb (findFirst k (waitsFor objects states k)) k l)
 
 pub ruleset waits-laws = (waits-from, waits-found, waits-next, waits-none)

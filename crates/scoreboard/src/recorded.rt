@@ -80,7 +80,8 @@ pub fn candidate(rd: &[u32], rb: &[u8], r: usize) -> Candidate
     }
 }
 
-// The lowest delta of a candidate at the object of record r, if that one uses a scoreboard and colours agree; else 8.
+// The lowest delta of a candidate at the object of record r, if that one uses a scoreboard and colours agree; else 8. The tests that most objects
+// fail come first.
 pub fn delta_to(rd: &[u32], rb: &[u8], c: Candidate, r: usize) -> u32
     requires { ⌜ (16 * r + 16 ≤ length (dwordsIn (now rd) (now rb))) × (r < 16384) ⌝ }
     ensures { λ i. ⌜ i ≡ deltaTo (dwordsIn (now (rd .entry)) (now (rb .entry))) c r ⌝ }
@@ -93,11 +94,15 @@ pub fn delta_to(rd: &[u32], rb: &[u8], c: Candidate, r: usize) -> u32
     if !near(c.y, jy) {
         return 8;
     }
+    let i = lowest_delta(c.x, c.y, c.mask, c.d6, c.d7, jx, jy);
+    if i == 8 {
+        return 8;
+    }
     if record_word(rd, rb, r, 9) != c.colour {
         return 8;
     }
     if !uses_scoreboard(record_word(rd, rb, r, 4), vfe_word(rd, rb, r, 8)) {
         return 8;
     }
-    lowest_delta(c.x, c.y, c.mask, c.d6, c.d7, jx, jy)
+    i
 }

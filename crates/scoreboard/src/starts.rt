@@ -6,7 +6,7 @@ ghost use lib.Dec.{ltb};
 ghost use lib.ListN.{length};
 ghost use Rattle.words.specs.Dwords.{dwordsIn};
 ghost use Rattle.laws.specs.Find.{NoneBelow};
-ghost use Rattle.scoreboard.specs.Run.{stateAt, lowestWaiting};
+ghost use Rattle.scoreboard.specs.Run.{stateAt, lowestWaiting, verdict};
 ghost use Rattle.scoreboard.specs.Recorded.{objectsRecorded, Spotted, Holds, stallsAt, deltaIn};
 ghost use Rattle.scoreboard.specs.Starts.{waitVerdict, startVerdict, waitingAt, unfinishedAt, nearestOf, Sound};
 use crate::Candidate;
@@ -76,6 +76,17 @@ fn delta_at(rd: &[u32], rb: &[u8], c: Candidate, r: usize, state: u8) -> u32
     delta_to(rd, rb, c, r)
 }
 
+// No row holds.
+fn nothing_wrong() -> Verdict
+    ensures { λ v. ⌜ v ≡ verdict 0 0 0 ⌝ }
+{
+    Verdict {
+        number: 0,
+        object: 0,
+        delta: 0,
+    }
+}
+
 // Row 25: the lowest object that object k, of record own, waits for. Below the spot all are finished.
 fn waits(
     rd: &[u32],
@@ -89,6 +100,9 @@ fn waits(
     requires { ⌜ (16 * n ≤ length (dwordsIn (now rd) (now rb))) × (n ≤ 16384) × Spotted (dwordsIn (now rd) (now rb)) n (from .object) (from .at) × NoneBelow (unfinishedAt (now states)) (from .object) × (from .object ≤ k) × (k < length (objectsRecorded (dwordsIn (now rd) (now rb)) 0 n)) × (length (objectsRecorded (dwordsIn (now rd) (now rb)) 0 n) ≤ length (now states)) × (k < 2 ^ 31) × Holds (dwordsIn (now rd) (now rb)) n k own ⌝ }
     ensures { λ v. ⌜ v ≡ waitVerdict (objectsRecorded (dwordsIn (now (rd .entry)) (now (rb .entry))) 0 n) (now (states .entry)) k ⌝ }
 {
+    if from.object == k {
+        return nothing_wrong();
+    }
     let c = candidate(rd, rb, own);
     let mut j = from.object;
     let mut at = from.at;
@@ -105,11 +119,7 @@ fn waits(
         at = r + 1;
         j += 1;
     }
-    Verdict {
-        number: 0,
-        object: 0,
-        delta: 0,
-    }
+    nothing_wrong()
 }
 
 // Row 24, where the object of record r is to start: object w, in state 0, is before k.

@@ -1,5 +1,5 @@
-use Rattle.scoreboard.proofs.RecordWords.{delta-far-x, delta-far-y, delta-other, delta-unused, delta-there}
 use borrow.Author.Needs.{needs}
+use Rattle.scoreboard.proofs.RecordWords.{delta-far-x, delta-far-y, delta-none, delta-other, delta-unused, delta-there}
 use Rattle.scoreboard.proofs.recorded.delta_to.Statement.{statement}
 use Rattle.scoreboard.proofs.recorded.delta_to.Tie as tie
 
@@ -21,11 +21,17 @@ near-requires-2 c κs = search needs
 returns-2 : tie.Need-returns-2
 returns-2 c = search delta-far-y
 
+lowest-delta-requires : tie.Need-lowest-delta-requires
+lowest-delta-requires c κs = search needs
+
+returns-3 : tie.Need-returns-3
+returns-3 c = search delta-none
+
 record-word-requires-3 : tie.Need-record-word-requires-3
 record-word-requires-3 c κs = search needs
 
-returns-3 : tie.Need-returns-3
-returns-3 c = search delta-other
+returns-4 : tie.Need-returns-4
+returns-4 c = search delta-other
 
 record-word-requires-4 : tie.Need-record-word-requires-4
 record-word-requires-4 c κs = search needs
@@ -36,14 +42,11 @@ vfe-word-requires c κs = search needs
 uses-scoreboard-requires : tie.Need-uses-scoreboard-requires
 uses-scoreboard-requires c κs = search needs
 
-returns-4 : tie.Need-returns-4
-returns-4 c = search delta-unused
-
-lowest-delta-requires : tie.Need-lowest-delta-requires
-lowest-delta-requires c κs = search needs
-
 returns-5 : tie.Need-returns-5
-returns-5 c = search delta-there
+returns-5 c = search delta-unused
+
+returns-6 : tie.Need-returns-6
+returns-6 c = search delta-there
 
 pub delta-to-spec : {M : Type 1} → statement M
 delta-to-spec =
@@ -55,11 +58,12 @@ delta-to-spec =
     record-word-requires-2
     near-requires-2
     returns-2
-    record-word-requires-3
+    lowest-delta-requires
     returns-3
+    record-word-requires-3
+    returns-4
     record-word-requires-4
     vfe-word-requires
     uses-scoreboard-requires
-    returns-4
-    lowest-delta-requires
-    returns-5)
+    returns-5
+    returns-6)

@@ -1,11 +1,12 @@
 use borrow.Author.Needs.{needs}
+use native.Mathlib.Omega.{arith}
 use Prim.Native.Nat.{_-_, _≤_}
 use Rattle.words.specs.Dwords.{dwordsIn}
 use Rattle.laws.specs.Find.{NoneBelow}
 use Rattle.scoreboard.specs.Run.{waitsFor}
 use Rattle.scoreboard.specs.Recorded.{objectsRecorded, Spotted}
 use Rattle.scoreboard.proofs.Spots.{walk-in, walks}
-use Rattle.scoreboard.proofs.Searches.{waits-laws}
+use Rattle.scoreboard.proofs.Searches.{waits-from, waits-none, waits-laws}
 use Rattle.scoreboard.proofs.starts.waits.Statement.{statement}
 use Rattle.scoreboard.proofs.starts.waits.Tie as tie
 
@@ -14,6 +15,15 @@ Inv-loop rd rb n states k own c j₀ at₀ j at = (j ≤ k) × Spotted (dwordsIn
 
 abbrev μ-loop : tie.MeasureT-loop
 μ-loop rd rb n states k own c j₀ at₀ j at = k - j
+
+nothing-wrong-requires : tie.Need-nothing-wrong-requires Inv-loop μ-loop
+nothing-wrong-requires c κs = search needs
+
+returns : tie.Need-returns Inv-loop μ-loop
+returns c =
+    let b = c .before .before .before .before .before .before in
+    let h : b .args .k ≤ b .args .from .object = omega arith in
+    waits-none _ _ _ (b .args .from .object) _ (waits-from _ _ _ (b .args .from .object) (b .pre .3)) h (c .nothing-wrong .ensures)
 
 candidate-requires : tie.Need-candidate-requires Inv-loop μ-loop
 candidate-requires c κs = search needs
@@ -30,19 +40,19 @@ shared-slice-read-delta-at c = search needs
 delta-at-requires : tie.Need-delta-at-requires Inv-loop μ-loop
 delta-at-requires c κs =
     let l = c .before .before .before .loop in
-    let p = c .before .before .before .before .before .before .before .before .pre in
+    let p = c .before .before .before .before .before .before .before .before .before .before .pre in
     search (needs, walk-in _ _ _ _ _ _ (l .inv .1) (p .5) (c .before .object-from .ensures) (c .before .before .loop-test .taken))
 
-cast-t16 : tie.Need-cast-t16 Inv-loop μ-loop
-cast-t16 c = search needs
+cast-t17 : tie.Need-cast-t17 Inv-loop μ-loop
+cast-t17 c = search needs
 
-returns : tie.Need-returns Inv-loop μ-loop
-returns c = search waits-laws
+returns-2 : tie.Need-returns-2 Inv-loop μ-loop
+returns-2 c = search waits-laws
 
 add-at : tie.Need-add-at Inv-loop μ-loop
 add-at c =
     let l = c .before .before .before .before .before .loop in
-    let p = c .before .before .before .before .before .before .before .before .before .before .pre in
+    let p = c .before .before .before .before .before .before .before .before .before .before .before .before .pre in
     search (needs, walk-in _ _ _ _ _ _ (l .inv .1) (p .5) (c .before .before .before .object-from .ensures) (c .before .before .before .before .loop-test .taken))
 
 add-j : tie.Need-add-j Inv-loop μ-loop
@@ -54,8 +64,11 @@ loop-less c = search needs
 loop-again : tie.Need-loop-again Inv-loop μ-loop
 loop-again c = (search needs, search walks, search waits-laws)
 
-returns-2 : tie.Need-returns-2 Inv-loop μ-loop
-returns-2 c = search waits-laws
+nothing-wrong-requires-2 : tie.Need-nothing-wrong-requires-2 Inv-loop μ-loop
+nothing-wrong-requires-2 c κs = search needs
+
+returns-3 : tie.Need-returns-3 Inv-loop μ-loop
+returns-3 c = search waits-laws
 
 pub waits-spec : {M : Type 1} → statement M
 waits-spec =
@@ -63,15 +76,18 @@ waits-spec =
     (tie.spec
     Inv-loop
     μ-loop
+    nothing-wrong-requires
+    returns
     candidate-requires
     loop-holds
     object-from-requires
     shared-slice-read-delta-at
     delta-at-requires
-    cast-t16
-    returns
+    cast-t17
+    returns-2
     add-at
     add-j
     loop-less
     loop-again
-    returns-2)
+    nothing-wrong-requires-2
+    returns-3)
