@@ -10,7 +10,7 @@ use Rattle.event.specs.Outcomes.{outcomeOf}
 use Rattle.effects.specs.Barriers.{waitingAfter}
 use Rattle.effects.specs.Effects.{gatewaysAfter, bytesAfter, waitsAfter, countsAfter, forwarded}
 
--- it is a refusal
+-- what every refusal leaves so, a decision whose outcome is not 0 leaves so
 pub refusal : {A : Type 0} (f : Decision → A) (a : A) → ((n : ℕ) → f (Refused n) ≡ a) → (d : Decision) → (outcomeOf d ≡ 0 → ⊥) → f d ≡ a
 unfolding outcomeOf
 refusal f a r (Refused n) o = r n

@@ -24,8 +24,8 @@ memberMask (suc n) groups b = cond (eqb (groupOf groups n) b) (memberMask n grou
 unfoldable pub masks : (ℕ → ℕ) → List ℕ
 masks f = filled f 16 (replicate 16 0)
 
-abbrev pub membersOf : Setup → List ℕ
-membersOf s = masks (memberMask (s .threads) (s .groups))
+abbrev pub memberMasks : Setup → List ℕ
+memberMasks s = masks (memberMask (s .threads) (s .groups))
 
 abbrev pub ownGroup : Head → Setup → ℕ
 ownGroup h s = groupOf (s .groups) (h .sender)
@@ -59,8 +59,8 @@ waitingAfter (Wait t) b waiting = set waiting b (getD waiting b 0 + 2 ^ t)
 waitingAfter (Release g) b waiting = set waiting b 0
 waitingAfter (Update c v) b waiting = waiting
 
--- What such an event needs: sixteen barriers, a mask of threads for each, and lent buffers as long as row 16 leaves them.
-pub record Barred (s : Setup) (members waiting bytes registers counts : List ℕ) : Type 0 where
+-- What `message` needs: sixteen barriers, a mask of threads for each, and lent buffers as long as row 16 leaves them.
+pub record BarrierRoom (s : Setup) (members waiting bytes registers counts : List ℕ) : Type 0 where
   pub few : s .threads ≤ 16
   pub all : length members ≡ 16
   pub kept : length waiting ≡ 16

@@ -7,7 +7,7 @@ ghost use lib.ListN.{length, getD};
 ghost use Rattle.event.specs.Codes.{closed};
 ghost use Rattle.event.specs.Outcomes.{decisionOf, outcomeOf};
 ghost use Rattle.effects.specs.Effects.{bytesAfter, countsAfter, withAck};
-ghost use Rattle.effects.specs.Barriers.{membersOf, slotOf, arrivalOf, messageOf, waitingAfter, Barred};
+ghost use Rattle.effects.specs.Barriers.{memberMasks, slotOf, arrivalOf, messageOf, waitingAfter, BarrierRoom};
 use crate::buffers::acknowledge;
 use crate::buffers::pay;
 use event::Head;
@@ -23,7 +23,7 @@ fn bit(t: usize) -> u32
     1u32 << t
 }
 
-fn has(mask: u32, t: usize) -> bool
+fn has_bit(mask: u32, t: usize) -> bool
     requires { ⌜ t < 16 ⌝ }
     ensures { λ r. ⌜ r ≡ eqb (mask / 2 ^ t % 2) 1 ⌝ }
 {
@@ -33,7 +33,7 @@ fn has(mask: u32, t: usize) -> bool
 // The mask of each group's members.
 pub fn members(setup: Setup) -> [u32; 16]
     requires { ⌜ setup .threads ≤ 16 ⌝ }
-    ensures { λ r. ⌜ r ≡ membersOf setup ⌝ }
+    ensures { λ r. ⌜ r ≡ memberMasks setup ⌝ }
 {
     let threads = setup.threads;
     let groups = setup.groups;
@@ -65,7 +65,7 @@ fn arrive(h: Head, setup: Setup, members: &[u32], waiting: &mut [u32], counts: &
         return 38;
     }
     let b = (group % 16) as usize;
-    if has(waiting[b], sender) {
+    if has_bit(waiting[b], sender) {
         return 39;
     }
     let arrived = waiting[b] + bit(sender);
@@ -102,7 +102,7 @@ pub fn message(
     registers: &mut [u8],
     counts: &mut [u32],
 ) -> u8
-    requires { ⌜ Barred setup (now members) (now waiting) (now bytes) (now registers) (now counts) ⌝ }
+    requires { ⌜ BarrierRoom setup (now members) (now waiting) (now bytes) (now registers) (now counts) ⌝ }
     requires { ⌜ 2 < h .kind ⌝ }
     ensures { λ r. ⌜ (r ≡ outcomeOf (messageOf h setup (now (members .entry)) (now (waiting .entry)))) × (now (waiting .exit) ≡ waitingAfter (messageOf h setup (now (members .entry)) (now (waiting .entry))) (slotOf h setup) (now (waiting .entry))) × (now (bytes .exit) ≡ bytesAfter (messageOf h setup (now (members .entry)) (now (waiting .entry))) (now (bytes .entry))) × (now (registers .exit) ≡ withAck h r (now (registers .entry))) × (now (counts .exit) ≡ countsAfter (messageOf h setup (now (members .entry)) (now (waiting .entry))) setup (now (counts .entry))) ⌝ }
 {

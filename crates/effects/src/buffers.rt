@@ -19,7 +19,7 @@ fn one_if(b: bool) -> u32
     0
 }
 
-// One more at a place, or none. A branch here would be mispredicted, so none is taken.
+// One more at a place, or none. A branch here would be mispredicted, and the compiler makes none of this.
 fn one_more_if(counts: &mut [u32], k: usize, b: bool)
     requires { ⌜ (k < length (now counts)) × (getD (now counts) k 0 < 4294967295) ⌝ }
     ensures { λ _. ⌜ now (counts .exit) ≡ cond b (oneMore (now (counts .entry)) k) (now (counts .entry)) ⌝ }

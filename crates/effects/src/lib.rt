@@ -1,4 +1,4 @@
-// What an event does: to the gateways, the barriers, the registers and the counts.
+// What an event does to the barriers, the registers and the counts. Gateways: `event::outcomes` and the loop of crate gateway.
 pub mod barriers;
 pub mod buffers;
 pub mod forwards;

@@ -1,4 +1,4 @@
--- The rows of kinds that no message of the recording has. Assumes nothing.
+-- Kinds that are not served: 3 and 6 are refused with 32. Assumes nothing.
 use mathlib.Core.Path.{_≡_, refl, sym, subst}
 use mathlib.Core.Bool.{Bool}
 use mathlib.Core.List.{List}

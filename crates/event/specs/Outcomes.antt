@@ -149,10 +149,11 @@ accepted k h s g waits =
 abbrev pub refused : ℕ → ℕ → Decision
 refused number place = Refused number
 
--- the first row that holds decides
+-- rows 32 to 39, of an event that is not malformed: the first that holds decides
 unfoldable pub ruledOf : ℕ → Head → Setup → Gateway → List Bool → Decision
 ruledOf k h s g waits = firstRow refused (accepted k h s g waits) (ruleRows k h s g waits)
 
+-- 31 before them
 unfoldable pub decidedOf : ℕ → Head → Setup → Gateway → List Bool → Decision
 decidedOf k h s g waits = firstRow refused (accepted k h s g waits) (when 31 (malformed k h (s .threads)) ∷ ruleRows k h s g waits)
 

@@ -76,6 +76,7 @@ fn ack_malformed(h: Head) -> bool
     127 < h.register
 }
 
+// The faults in the rule's order.
 pub fn is_malformed(h: Head, threads: usize) -> bool
     ensures { λ r. ⌜ r ≡ malformed (h .kind) h threads ⌝ }
 {

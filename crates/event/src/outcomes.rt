@@ -1,5 +1,5 @@
-// The outcome of an event, by its kind: the number of the rule that refuses it, or 0. A barrier message's needs who waits, and is told where that
-// is kept (crate effects).
+// The outcome of an event, by its kind: the number of the rule that refuses it, or 0. A barrier message's needs who waits, and is decided where
+// that is kept (`barriers::arrive`, crate effects).
 ghost use mathlib.Core.Path.{_≡_};
 ghost use mathlib.Core.List.{[]};
 ghost use Prim.Native.Nat.{_<_, _≤_};
@@ -19,7 +19,7 @@ pub fn count(code: u32) -> u32
     1u32 << code
 }
 
-// A forward's. Who waits is no matter to it.
+// A forward's. Who waits is no matter to it (`forward-same`).
 pub fn forward_outcome(h: Head, setup: Setup, gate: Gateway) -> u8
     requires { ⌜ h .kind ≡ 2 ⌝ }
     requires { ⌜ Window gate ⌝ }
@@ -81,7 +81,7 @@ fn close_outcome(h: Head, setup: Setup) -> u8
     0
 }
 
-// An open's or a close's. Neither another gateway nor who waits is of any matter to it.
+// An open's or a close's. Neither another gateway nor who waits is of any matter to it (`other-same`).
 pub fn gateway_outcome(h: Head, setup: Setup) -> u8
     requires { ⌜ h .kind < 2 ⌝ }
     ensures { λ r. ⌜ r ≡ outcomeOf (decisionOf h setup closed []) ⌝ }

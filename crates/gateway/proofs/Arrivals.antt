@@ -25,7 +25,7 @@ use Rattle.event.proofs.Reach.{formed-of}
 use Rattle.event.proofs.ByKind.{other-same}
 use Rattle.event.proofs.Sources.{Source, decision-source}
 use Rattle.effects.specs.Effects.{released, waitsAfter}
-use Rattle.effects.specs.Barriers.{memberMask, masks, membersOf, ownGroup, slotOf, arrivalOf, messageOf, waitingAfter}
+use Rattle.effects.specs.Barriers.{memberMask, masks, memberMasks, ownGroup, slotOf, arrivalOf, messageOf, waitingAfter}
 use Rattle.effects.proofs.Members.{mask-at, masks-same, masks-set}
 use Rattle.effects.proofs.Arrivals.{as-arrival, as-other}
 use Rattle.gateway.specs.Replay.{State, waitingOf, waitingIn, barrierOf, emptyBarrier, barriersOf, barriersFrom}
@@ -44,7 +44,7 @@ module _ (s : Setup) where
   unfolding masks
   sixteen-masks ws = filled-long (λ b. waitingOf (s .threads) (s .groups) b ws) (replicate 16 0) 16
 
-  pub sixteen-members : length (membersOf s) ≡ 16
+  pub sixteen-members : length (memberMasks s) ≡ 16
   unfolding masks
   sixteen-members = filled-long (memberMask (s .threads) (s .groups)) (replicate 16 0) 16
 
@@ -82,8 +82,8 @@ module _ (s : Setup) (few : s .threads ≤ 16) (grouped : (t : ℕ) → t < s .t
       kept-mask : getD (waitingIn s ws) (slotOf h s) 0 ≡ maskOf ws own
       kept-mask = ap (λ (b : ℕ). getD (waitingIn s ws) b 0) slot-is ∙ mask-at (maskOf ws) own below
 
-      kept-members : getD (membersOf s) (slotOf h s) 0 ≡ memberMask (s .threads) (s .groups) own
-      kept-members = ap (λ (b : ℕ). getD (membersOf s) b 0) slot-is ∙ mask-at (memberMask (s .threads) (s .groups)) own below
+      kept-members : getD (memberMasks s) (slotOf h s) 0 ≡ memberMask (s .threads) (s .groups) own
+      kept-members = ap (λ (b : ℕ). getD (memberMasks s) b 0) slot-is ∙ mask-at (memberMask (s .threads) (s .groups)) own below
 
       waits-is : eqb (getD (waitingIn s ws) (slotOf h s) 0 / 2 ^ h .sender % 2) 1 ≡ waitsOf ws (h .sender)
       waits-is = ap (λ (m : ℕ). eqb (m / 2 ^ h .sender % 2) 1) kept-mask ∙ bit-tells (s .groups) own ws (s .threads) (h .sender) in-threads refl
@@ -92,7 +92,7 @@ module _ (s : Setup) (few : s .threads ≤ 16) (grouped : (t : ℕ) → t < s .t
         one-more : maskOf (set ws (h .sender) true) own ≡ maskOf ws own + 2 ^ h .sender
         one-more = waiting-set (s .groups) own ws (h .sender) refl new (omega arith) (s .threads) in-threads
 
-        whole-is : eqb (getD (waitingIn s ws) (slotOf h s) 0 + 2 ^ h .sender) (getD (membersOf s) (slotOf h s) 0) ≡ wholeOf s own (set ws (h .sender) true)
+        whole-is : eqb (getD (waitingIn s ws) (slotOf h s) 0 + 2 ^ h .sender) (getD (memberMasks s) (slotOf h s) 0) ≡ wholeOf s own (set ws (h .sender) true)
         whole-is =
             (λ j. eqb (kept-mask j + 2 ^ h .sender) (kept-members j))
             ∙ ap (λ (m : ℕ). eqb m (memberMask (s .threads) (s .groups) own)) (sym one-more)
@@ -117,10 +117,10 @@ module _ (s : Setup) (few : s .threads ≤ 16) (grouped : (t : ℕ) → t < s .t
     abbrev d : Decision
     d = decisionOf h s g ws
 
-    pub arrival-is : h .kind ≡ 4 → arrivalOf h s (getD (waitingIn s ws) (slotOf h s) 0) (getD (membersOf s) (slotOf h s) 0) ≡ d
+    pub arrival-is : h .kind ≡ 4 → arrivalOf h s (getD (waitingIn s ws) (slotOf h s) 0) (getD (memberMasks s) (slotOf h s) 0) ≡ d
     unfolding arrivalOf decisionOf decidedOf
     arrival-is k =
-        subst (λ (m : ℕ). arrivalOf h s (getD (waitingIn s ws) (slotOf h s) 0) (getD (membersOf s) (slotOf h s) 0) ≡ decidedOf m h s g ws) (sym k)
+        subst (λ (m : ℕ). arrivalOf h s (getD (waitingIn s ws) (slotOf h s) 0) (getD (memberMasks s) (slotOf h s) 0) ≡ decidedOf m h s g ws) (sym k)
         (by-test (malformed 4 h (s .threads)) (λ f. simp f) λ f.
         by-test (eqb own 255) (λ q. simp (f, q)) λ q.
         let t = formed-sender 4 h (s .threads) f in
@@ -130,11 +130,11 @@ module _ (s : Setup) (few : s .threads ≤ 16) (grouped : (t : ℕ) → t < s .t
         (λ w. simp (f, q, waits-is t n ∙ w, w) (λ j. cond (whole-is t n w j) (Release own) (Wait (h .sender)))))
 
     -- an event that is neither an open, a close nor a forward
-    pub message-is : (h .kind ≡ 2 → ⊥) → messageOf h s (membersOf s) (waitingIn s ws) ≡ d
+    pub message-is : (h .kind ≡ 2 → ⊥) → messageOf h s (memberMasks s) (waitingIn s ws) ≡ d
     message-is n =
         by-test (eqb (h .kind) 4)
-        (λ q. let k = eqb-true (h .kind) 4 q in sym (as-arrival h s (membersOf s) (waitingIn s ws) k) ∙ arrival-is k)
-        (λ q. let m = eqb-false (h .kind) 4 q in sym (as-other h s (membersOf s) (waitingIn s ws) m) ∙ other-same h s closed g [] ws n m)
+        (λ q. let k = eqb-true (h .kind) 4 q in sym (as-arrival h s (memberMasks s) (waitingIn s ws) k) ∙ arrival-is k)
+        (λ q. let m = eqb-false (h .kind) 4 q in sym (as-other h s (memberMasks s) (waitingIn s ws) m) ∙ other-same h s closed g [] ws n m)
 
     waiting-by : (e : Decision) → Source (h .kind) h s g ws e → (outcomeOf e ≡ 0 → h .sender < s .threads)
         → waitingAfter e (slotOf h s) (waitingIn s ws) ≡ waitingIn s (waitsAfter e s ws)

@@ -19,7 +19,7 @@ use Rattle.event.specs.Groups.{noGroup, groupOf}
 use Rattle.event.specs.Outcomes.{decisionOf, outcomeOf}
 use Rattle.event.proofs.ByKind.{forward-same, other-same}
 use Rattle.effects.specs.Effects.{gatewaysAfter, bytesAfter, released, waitsAfter, countsAfter, forwarded, withAck}
-use Rattle.effects.specs.Barriers.{membersOf, slotOf, messageOf, waitingAfter}
+use Rattle.effects.specs.Barriers.{memberMasks, slotOf, messageOf, waitingAfter}
 use Rattle.effects.proofs.Refused.{same-gateways}
 use Rattle.gateway.specs.Recording.{eventAt}
 use Rattle.gateway.specs.Replay.{World, decisionIn, stepOf, runOf, waitingIn, Kept, barriersFrom, Replay, ended}
@@ -127,7 +127,7 @@ module _ (rec : List ℕ) (s : Setup) (events : ℕ) (w₀ : World) {gs : List G
 
     -- any other event, by the masks
     pub message-turn : s .threads ≤ 16 → ((t : ℕ) → t < s .threads → (groupOf (s .groups) t ≡ noGroup → ⊥) → groupOf (s .groups) t < 16) → length (w₀ .state .waits) ≡ 16
-        → {gs′ : List Gateway} {members bs′ ms′ rs′ cs′ os′ : List ℕ} {o : ℕ} → gs′ ≡ gs → members ≡ membersOf s → 2 < h .kind → o ≡ outcomeOf (messageOf h s members ms)
+        → {gs′ : List Gateway} {members bs′ ms′ rs′ cs′ os′ : List ℕ} {o : ℕ} → gs′ ≡ gs → members ≡ memberMasks s → 2 < h .kind → o ≡ outcomeOf (messageOf h s members ms)
         → ms′ ≡ waitingAfter (messageOf h s members ms) (slotOf h s) ms → bs′ ≡ bytesAfter (messageOf h s members ms) bs → rs′ ≡ withAck h o rs
         → cs′ ≡ countsAfter (messageOf h s members ms) s cs → os′ ≡ set os i o → length rs′ ≡ length rs → length cs′ ≡ length cs → length bs′ ≡ length bs
         → Going rec s events w₀ gs′ bs′ ms′ rs′ cs′ os′ (i + 1)

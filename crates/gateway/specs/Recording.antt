@@ -62,7 +62,7 @@ headerRows rec =
     ∷ row 13 0 (not (eqb (byteAt rec 9) 0))
     ∷ []
 
--- the first thread with such a byte, and the thread count where none has one
+-- the first thread with a stray group byte, and the thread count where none has one
 unfoldable pub strayGroupOf : List ℕ → ℕ
 strayGroupOf rec = findFirst (threadsOf rec) (strayGroup rec)
 

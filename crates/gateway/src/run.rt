@@ -13,7 +13,7 @@ use event::outcomes::gateway_left;
 use event::outcomes::gateway_outcome;
 
 // The gateways, the barriers' bytes and who waits after the events, with what they leave in the lent buffers. Each event is handed on as its 48
-// bytes, and its kind goes its own way: what all kinds did in common would be decided twice.
+// bytes. Each kind has a function of its own: one decision for all kinds would be built, then branched on again.
 pub fn run(
     recording: &[u8],
     setup: Setup,

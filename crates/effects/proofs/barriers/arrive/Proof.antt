@@ -22,17 +22,17 @@ returns-2 c = left-38 (c .before .before .before .before .before .before .before
 cast-b : tie.Need-cast-b
 cast-b c = search needs
 
-mul-has : tie.Need-mul-has
-mul-has c = search needs
+mul-has-bit : tie.Need-mul-has-bit
+mul-has-bit c = search needs
 
-slice-read-has : tie.Need-slice-read-has
-slice-read-has c = search needs
+slice-read-has-bit : tie.Need-slice-read-has-bit
+slice-read-has-bit c = search needs
 
-has-requires : tie.Need-has-requires
-has-requires c κs = omega (arith, formed-sender _ _ _ (sym (c .before .before .before .before .is-malformed .ensures) ∙ c .before .before .before .if1 .left))
+has-bit-requires : tie.Need-has-bit-requires
+has-bit-requires c κs = omega (arith, formed-sender _ _ _ (sym (c .before .before .before .before .is-malformed .ensures) ∙ c .before .before .before .if1 .left))
 
 returns-3 : tie.Need-returns-3
-returns-3 c = left-39 (c .before .before .before .before .before .before .before .before .before .before .args .h) (c .before .before .before .before .before .before .before .before .before .before .args .setup) (c .before .before .before .before .before .before .before .before .before .before .args .members .now) (c .before .before .before .before .before .before .before .before .before .before .args .waiting .now) (c .before .before .before .before .before .before .before .before .before .before .args .counts .now) (c .before .before .before .before .before .before .before .before .before .before .pre .0) (sym (c .before .before .before .before .before .before .is-malformed .ensures) ∙ c .before .before .before .before .before .if1 .left) (c .before .before .before .if2 .left) (sym (c .before .has .ensures) ∙ c .if3 .taken)
+returns-3 c = left-39 (c .before .before .before .before .before .before .before .before .before .before .args .h) (c .before .before .before .before .before .before .before .before .before .before .args .setup) (c .before .before .before .before .before .before .before .before .before .before .args .members .now) (c .before .before .before .before .before .before .before .before .before .before .args .waiting .now) (c .before .before .before .before .before .before .before .before .before .before .args .counts .now) (c .before .before .before .before .before .before .before .before .before .before .pre .0) (sym (c .before .before .before .before .before .before .is-malformed .ensures) ∙ c .before .before .before .before .before .if1 .left) (c .before .before .before .if2 .left) (sym (c .before .has-bit .ensures) ∙ c .if3 .taken)
 
 mul-arrived : tie.Need-mul-arrived
 mul-arrived c = search needs
@@ -68,7 +68,7 @@ same-length-2 : tie.Need-same-length-2
 same-length-2 c = search needs
 
 returns-4 : tie.Need-returns-4
-returns-4 c = left-whole (c .before .before .before .before .before .before .before .before .before .before .before .before .before .before .before .before .before .before .args .h) (c .before .before .before .before .before .before .before .before .before .before .before .before .before .before .before .before .before .before .args .setup) (c .before .before .before .before .before .before .before .before .before .before .before .before .before .before .before .before .before .before .args .members .now) (c .before .before .before .before .before .before .before .before .before .before .before .before .before .before .before .before .before .before .args .waiting .now) (c .before .before .before .before .before .before .before .before .before .before .before .before .before .before .before .before .before .before .args .counts .now) (c .before .before .before .before .before .before .before .before .before .before .before .before .before .before .before .before .before .before .pre .0) (sym (c .before .before .before .before .before .before .before .before .before .before .before .before .before .before .is-malformed .ensures) ∙ c .before .before .before .before .before .before .before .before .before .before .before .before .before .if1 .left) (c .before .before .before .before .before .before .before .before .before .before .before .if2 .left) (sym (c .before .before .before .before .before .before .before .before .before .has .ensures) ∙ c .before .before .before .before .before .before .before .before .if3 .left) (c .before .before .before .before .before .before .bit .ensures .0) (c .before .before .before .before .if4 .taken) (c .before .before .pay .ensures)
+returns-4 c = left-whole (c .before .before .before .before .before .before .before .before .before .before .before .before .before .before .before .before .before .before .args .h) (c .before .before .before .before .before .before .before .before .before .before .before .before .before .before .before .before .before .before .args .setup) (c .before .before .before .before .before .before .before .before .before .before .before .before .before .before .before .before .before .before .args .members .now) (c .before .before .before .before .before .before .before .before .before .before .before .before .before .before .before .before .before .before .args .waiting .now) (c .before .before .before .before .before .before .before .before .before .before .before .before .before .before .before .before .before .before .args .counts .now) (c .before .before .before .before .before .before .before .before .before .before .before .before .before .before .before .before .before .before .pre .0) (sym (c .before .before .before .before .before .before .before .before .before .before .before .before .before .before .is-malformed .ensures) ∙ c .before .before .before .before .before .before .before .before .before .before .before .before .before .if1 .left) (c .before .before .before .before .before .before .before .before .before .before .before .if2 .left) (sym (c .before .before .before .before .before .before .before .before .before .has-bit .ensures) ∙ c .before .before .before .before .before .before .before .before .if3 .left) (c .before .before .before .before .before .before .bit .ensures .0) (c .before .before .before .before .if4 .taken) (c .before .before .pay .ensures)
 
 mul-waiting-2 : tie.Need-mul-waiting-2
 mul-waiting-2 c = search needs
@@ -80,7 +80,7 @@ same-length-3 : tie.Need-same-length-3
 same-length-3 c = search needs
 
 returns-5 : tie.Need-returns-5
-returns-5 c = left-waits (c .before .before .before .before .before .before .before .before .before .before .before .before .before .before .args .h) (c .before .before .before .before .before .before .before .before .before .before .before .before .before .before .args .setup) (c .before .before .before .before .before .before .before .before .before .before .before .before .before .before .args .members .now) (c .before .before .before .before .before .before .before .before .before .before .before .before .before .before .args .waiting .now) (c .before .before .before .before .before .before .before .before .before .before .before .before .before .before .args .counts .now) (c .before .before .before .before .before .before .before .before .before .before .before .before .before .before .pre .0) (sym (c .before .before .before .before .before .before .before .before .before .before .is-malformed .ensures) ∙ c .before .before .before .before .before .before .before .before .before .if1 .left) (c .before .before .before .before .before .before .before .if2 .left) (sym (c .before .before .before .before .before .has .ensures) ∙ c .before .before .before .before .if3 .left) (c .before .before .bit .ensures .0) (c .if4 .left)
+returns-5 c = left-waits (c .before .before .before .before .before .before .before .before .before .before .before .before .before .before .args .h) (c .before .before .before .before .before .before .before .before .before .before .before .before .before .before .args .setup) (c .before .before .before .before .before .before .before .before .before .before .before .before .before .before .args .members .now) (c .before .before .before .before .before .before .before .before .before .before .before .before .before .before .args .waiting .now) (c .before .before .before .before .before .before .before .before .before .before .before .before .before .before .args .counts .now) (c .before .before .before .before .before .before .before .before .before .before .before .before .before .before .pre .0) (sym (c .before .before .before .before .before .before .before .before .before .before .is-malformed .ensures) ∙ c .before .before .before .before .before .before .before .before .before .if1 .left) (c .before .before .before .before .before .before .before .if2 .left) (sym (c .before .before .before .before .before .has-bit .ensures) ∙ c .before .before .before .before .if3 .left) (c .before .before .bit .ensures .0) (c .if4 .left)
 
 pub arrive-spec : {M : Type 1} → statement M
 arrive-spec =
@@ -91,9 +91,9 @@ arrive-spec =
     array-read-group
     returns-2
     cast-b
-    mul-has
-    slice-read-has
-    has-requires
+    mul-has-bit
+    slice-read-has-bit
+    has-bit-requires
     returns-3
     mul-arrived
     slice-read-arrived
