@@ -182,11 +182,11 @@ enum {
     MPL_EVENT_NOT_SERVED = 32,  /* kind 3 or 6; kind 0 or 1 under bypass */
     MPL_OPEN_PAST_END = 33,     /* base + 2^size code over 128 registers */
     MPL_NO_RECIPIENT = 34,      /* forward: recipient not a thread */
-    MPL_GATEWAY_CLOSED = 35,    /* forward: the recipient's */
-    MPL_KEY_DIFFERS = 36,       /* forward: from the recipient's */
+    MPL_GATEWAY_CLOSED = 35,    /* forward: the recipient's gateway is closed */
+    MPL_KEY_DIFFERS = 36,       /* forward: key is not that of the recipient's gateway */
     MPL_PAST_WINDOW = 37,       /* forward: offset + 2^length code bytes over the window */
     MPL_NO_GROUP = 38,          /* barrier: sender has no group */
-    MPL_WAITS_ALREADY = 39      /* barrier: sender does */
+    MPL_WAITS_ALREADY = 39      /* barrier: sender waits already */
 };
 
 enum {
@@ -213,7 +213,7 @@ struct mpl_replayed {
 };
 
 /*
- * What did each thread's messages do? Lent: the recording, to read; to write, of T threads (byte 5) and E events (bytes 7 and 8, low first),
+ * What did each thread's messages do? Lent: the recording, to read; to write, by its thread count (byte 5) and event count (bytes 7 and 8),
  * `registers`, exactly 4,096 bytes a thread, thread 0's first, `counts`, exactly two numbers a thread, `outcomes`, at least one byte an event.
  * 0: `registers` holds what it held, with the accepted forwards and the acknowledgements written in the events' order; `counts` holds the
  * notifications, counted from 0; outcomes[i] is event i's; outcome bytes past the events are as they were.
