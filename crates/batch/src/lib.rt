@@ -83,7 +83,7 @@ fn advance_as(dw: &[u32], by: &[u8], len: usize, at: usize, k: u32, d: u32, st: 
     }
 }
 
-// The command at a place. A kind that is a constant in the call gets code of its own: OBJECTs and no-ops are most of a batch.
+// The command at a place. A kind that is a constant in the call gets code of its own: so has each kind that most batches hold.
 fn advance(dw: &[u32], by: &[u8], len: usize, at: usize, st: State) -> Turn
     requires { ⌜ (len ≡ length (dwordsIn (now dw) (now by))) × (at < len) × (len < 2 ^ 32) × (st .commands + 1 < 2 ^ 32) × (st .objects + 1 < 2 ^ 32) ⌝ }
     ensures { λ r. ⌜ r ≡ turnOf (drop at (dwordsIn (now (dw .entry)) (now (by .entry)))) st ⌝ }
@@ -95,6 +95,15 @@ fn advance(dw: &[u32], by: &[u8], len: usize, at: usize, st: State) -> Turn
     }
     if k == 0 {
         return advance_as(dw, by, len, at, 0, d, st);
+    }
+    if k == 3 {
+        return advance_as(dw, by, len, at, 3, d, st);
+    }
+    if k == 5 {
+        return advance_as(dw, by, len, at, 5, d, st);
+    }
+    if k == 2 {
+        return advance_as(dw, by, len, at, 2, d, st);
     }
     advance_as(dw, by, len, at, k, d, st)
 }
@@ -180,7 +189,7 @@ fn record_as(
     }
 }
 
-// Writes the record of the command at a place, with code of its own for OBJECTs and for no-ops.
+// Writes the record of the command at a place, with code of its own for the same kinds.
 fn record_at(dw: &[u32], by: &[u8], at: usize, st: State, rd: &mut [u32], rb: &mut [u8]) -> Onward
     requires { ⌜ (at < length (dwordsIn (now dw) (now by))) × (at < 16384) × (st .commands ≤ at) × (st .objects ≤ at) × Passes (turnOf (drop at (dwordsIn (now dw) (now by))) st) × (16 * st .commands + 16 ≤ length (dwordsIn (now rd) (now rb))) ⌝ }
     ensures { λ r. ⌜ (r ≡ onwardOf (drop at (dwordsIn (now (dw .entry)) (now (by .entry)))) st) × (buffer (now (rd .exit)) (now (rb .exit)) ≡ putWords putIn (buffer (now (rd .entry)) (now (rb .entry))) (st .commands) (recordOf (here (drop at (dwordsIn (now (dw .entry)) (now (by .entry)))) at st)) 16) × (dwordsIn (now (rd .exit)) (now (rb .exit)) ≡ putWords set (dwordsIn (now (rd .entry)) (now (rb .entry))) (st .commands) (recordOf (here (drop at (dwordsIn (now (dw .entry)) (now (by .entry)))) at st)) 16) ⌝ }
@@ -192,6 +201,15 @@ fn record_at(dw: &[u32], by: &[u8], at: usize, st: State, rd: &mut [u32], rb: &m
     }
     if k == 0 {
         return record_as(dw, by, at, 0, d, st, rd, rb);
+    }
+    if k == 3 {
+        return record_as(dw, by, at, 3, d, st, rd, rb);
+    }
+    if k == 5 {
+        return record_as(dw, by, at, 5, d, st, rd, rb);
+    }
+    if k == 2 {
+        return record_as(dw, by, at, 2, d, st, rd, rb);
     }
     record_as(dw, by, at, k, d, st, rd, rb)
 }

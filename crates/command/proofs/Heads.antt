@@ -9,7 +9,7 @@ use borrow.Author.Tests.{ltb-true, ne-eqb}
 use lib.Bits.{bitAnd, and-mask}
 use Rattle.laws.proofs.BitRanges.{taken}
 use mathlib.Core.List.{List}
-use Rattle.command.specs.Kinds.{kindOf, headOf, ownDword, ownDwords}
+use Rattle.command.specs.Kinds.{media, noKind, kindOf, headOf, ownDword, ownDwords}
 
 -- a descriptor load has as many dwords as a CURBE load
 pub five-as-four : (l : List ℕ) → headOf 4 l ≡ headOf 5 l
@@ -55,9 +55,15 @@ pub own-end : ownDwords 2 ≡ 1
 unfolding ownDwords
 own-end = refl
 
--- type and opcodes tell an OBJECT from every other kind, the whole dwords of kinds 0 to 2 too
-pub object-kind : (d : ℕ) → bitAnd (d / 65536) 65535 ≡ 0x7100 → 7 ≡ kindOf d
+-- a media command's kind, by its type and opcodes
+abbrev mediaKind : ℕ → ℕ
+mediaKind m =
+    cond (eqb m (media 0 0)) 3
+    (cond (eqb m (media 0 1)) 4 (cond (eqb m (media 0 2)) 5 (cond (eqb m (media 0 4)) 6 (cond (eqb m (media 1 0)) 7 noKind))))
+
+-- type and opcodes tell a media command from the whole dwords of kinds 0 to 2
+pub media-kind : (d m : ℕ) → bitAnd (d / 65536) 65535 ≡ m → 0x0500 < m → mediaKind m ≡ kindOf d
 unfolding kindOf
-object-kind d e =
-    let f : d / 65536 % 65536 ≡ 0x7100 = sym (and-mask (d / 65536) 16) ∙ e in
+media-kind d m e h =
+    let f : d / 65536 % 65536 ≡ m = sym (and-mask (d / 65536) 16) ∙ e in
     simp (taken, e, ne-eqb d 0x0000_0000 (λ q. omega arith), ne-eqb d 0x0200_0000 (λ q. omega arith), ne-eqb d 0x0500_0000 (λ q. omega arith))

@@ -1,5 +1,5 @@
 -- The acknowledgement: when it is written, and where. Assumes nothing.
-use mathlib.Core.Path.{_≡_, refl, sym, ap, _∙_}
+use mathlib.Core.Path.{_≡_, _∙_}
 use mathlib.Core.Bool.{Bool, true, false, _||_}
 use mathlib.Core.List.{List, [], _∷_}
 use Prim.Native.Nat.{ℕ, _+_, _*_, _≤_, _<_}
@@ -8,8 +8,7 @@ use lib.ListN.{length}
 use lib.Dec.{eqb}
 use borrow.Author.Tests.{eq-eqb, ne-eqb, eqb-false, not-true}
 use Rattle.laws.proofs.Choices.{by-test, and-left, and-right, none-of, or-false}
-use Rattle.words.specs.Dwords.{Buffer, buffer, putIn, putLe, dwordsIn}
-use Rattle.words.proofs.Dwords.{held-bytes, stored-bytes}
+use Rattle.words.specs.Dwords.{putLe}
 use Rattle.event.specs.declared.Head.{Head}
 use Rattle.event.specs.declared.Setup.{Setup}
 use Rattle.event.specs.declared.Gateway.{Gateway}
@@ -53,14 +52,6 @@ module _ (h : Head) (o : ℕ) where
       pub ack-fits : 4 * ackPlace h + 4 ≤ length rs
       ack-fits = room (acked a n m)
 
-      filled : length rs ≡ 0 → ⊥
-      filled e = omega (arith, ack-fits)
-
-      pub ack-index : (dw : List ℕ) → ackPlace h < length (dwordsIn dw rs)
-      ack-index dw = omega (arith, ack-fits, held-bytes dw rs filled)
-
-      pub ack-stored : (dw dw′ rs′ : List ℕ) → buffer dw′ rs′ ≡ putIn (buffer dw rs) (ackPlace h) o → rs′ ≡ withAck h o rs
+      pub ack-stored : (rs′ : List ℕ) → rs′ ≡ putLe rs (ackPlace h) o → rs′ ≡ withAck h o rs
       unfolding withAck
-      ack-stored dw dw′ rs′ e =
-          simp (acked a n m)
-          (ap (λ (b : Buffer). b .bytes) (e ∙ sym (stored-bytes dw rs (putLe rs (ackPlace h) o) (ackPlace h) o filled refl)))
+      ack-stored rs′ e = simp (acked a n m) e

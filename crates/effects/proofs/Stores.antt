@@ -1,11 +1,11 @@
 -- A forward's bytes: one by one, or all the data and what stood behind them. Assumes nothing.
-use mathlib.Core.Path.{_≡_, sym, ap, _∙_}
+use mathlib.Core.Path.{_≡_, refl, sym, ap, subst, _∙_}
 use mathlib.Core.List.{List, [], _∷_, _++_, append-assoc}
 use Prim.Native.Nat.{ℕ, _+_, _≤_, _<_}
 use native.Mathlib.Numerals.{add-one}
 use native.Mathlib.Omega.{arith}
 use lib.ListN.{length, getD, set, take, drop, length-drop, take-append-drop}
-use lib.Seq.{paste, paste-suc, take-paste, drop-paste, length-take-le, take-take, take-all, take-suc, take-suc-set, take-append-add, drop-drop, getD-take, getD-drop}
+use lib.Seq.{paste, paste-suc, length-paste, take-paste, drop-paste, length-take-le, take-take, take-all, take-suc, take-suc-set, take-append-add, drop-drop, take-add, getD-take, getD-drop}
 
 -- a turn of a loop that copies
 pub copied-turn : (d : List ℕ) (at : ℕ) (s : List ℕ) (i : ℕ) (l : List ℕ) (v : ℕ) → l ≡ paste d at s i → v ≡ getD s i 0
@@ -13,26 +13,57 @@ pub copied-turn : (d : List ℕ) (at : ℕ) (s : List ℕ) (i : ℕ) (l : List �
 copied-turn d at s i l v el ev hd hs =
     (λ j. set (el j) (at + i) (ev j)) ∙ paste-suc d at s i 0 hd hs ∙ ap (paste d at s) (sym (add-one i))
 
--- ---- the 32 bytes from a place on
+-- ---- a block: n bytes from a place on
 
-module _ (b : List ℕ) (at : ℕ) (room : at + 32 ≤ length b) where
+module _ (n : ℕ) (b : List ℕ) (at : ℕ) (room : at + n ≤ length b) where
   abbrev block : List ℕ
-  block = take 32 (drop at b)
+  block = take n (drop at b)
 
-  block-long : length block ≡ 32
-  block-long = length-take-le 32 (drop at b) (simp length-drop (omega arith))
+  block-long : length block ≡ n
+  block-long = length-take-le n (drop at b) (simp length-drop (omega arith))
 
-  -- a turn of the loop that loads them
-  pub loaded-turn : (l : List ℕ) (i : ℕ) → i < 32 → length l ≡ 32 → take i l ≡ take i block → take (i + 1) (set l i (getD b (at + i) 0)) ≡ take (i + 1) block
-  loaded-turn l i h n e =
+  -- a turn of the loop that loads it
+  pub loaded-turn : (l : List ℕ) (i : ℕ) → i < n → length l ≡ n → take i l ≡ take i block → take (i + 1) (set l i (getD b (at + i) 0)) ≡ take (i + 1) block
+  loaded-turn l i h long e =
       ap (λ (k : ℕ). take k (set l i (getD b (at + i) 0))) (add-one i)
       ∙ take-suc-set l i (getD b (at + i) 0) (omega arith)
-      ∙ (λ j. e j ++ (sym (getD-take 32 (drop at b) i 0 h ∙ getD-drop at b i 0) j ∷ []))
+      ∙ (λ j. e j ++ (sym (getD-take n (drop at b) i 0 h ∙ getD-drop at b i 0) j ∷ []))
       ∙ sym (take-suc block i 0 (omega (arith, block-long)))
       ∙ ap (λ (k : ℕ). take k block) (sym (add-one i))
 
-  pub loaded : (l : List ℕ) (i : ℕ) → 32 ≤ i → length l ≡ 32 → take i l ≡ take i block → l ≡ block
-  loaded l i h n e = sym (take-all i l (omega arith)) ∙ e ∙ take-all i block (omega (arith, block-long))
+  pub loaded : (l : List ℕ) (i : ℕ) → n ≤ i → length l ≡ n → take i l ≡ take i block → l ≡ block
+  loaded l i h long e = sym (take-all i l (omega arith)) ∙ e ∙ take-all i block (omega (arith, block-long))
+
+-- ---- stored block after block, what stood from a place on stands there again
+
+module _ (rs : List ℕ) (e : ℕ) (l : List ℕ) (long : length l ≡ length rs) (m n : ℕ) (room : e + m + n ≤ length rs) where
+  abbrev first : List ℕ
+  first = take m (drop e rs)
+
+  first-long : length first ≡ m
+  first-long = length-take-le m (drop e rs) (simp length-drop (omega arith))
+
+  one-by-one : paste (paste l e first m) (e + m) (take n (drop (e + m) rs)) n ≡ paste l e (take (m + n) (drop e rs)) (m + n)
+  one-by-one =
+      let far : e + (m + n) ≡ e + m + n = omega arith in
+      let h : take (e + m) (paste l e first m) ≡ take e l ++ take m first = take-paste l e first m (omega arith) (omega (arith, first-long)) in
+      let t : drop (e + m + n) (paste l e first m) ≡ drop (e + (m + n)) l =
+      sym (drop-drop n (e + m) (paste l e first m))
+      ∙ ap (drop n) (drop-paste l e first m (omega arith) (omega (arith, first-long)))
+      ∙ drop-drop n (e + m) l
+      ∙ ap (λ (k : ℕ). drop k l) (sym far) in
+      let b : take m first ++ take n (take n (drop (e + m) rs)) ≡ take (m + n) (take (m + n) (drop e rs)) =
+      (λ j. take-all m first (omega (arith, first-long)) j ++ take-take n n (drop (e + m) rs) (omega arith) j)
+      ∙ (λ j. first ++ take n (sym (drop-drop m e rs) j))
+      ∙ sym (take-add m n (drop e rs))
+      ∙ sym (take-take (m + n) (m + n) (drop e rs) (omega arith)) in
+      (λ j. h j ++ take n (take n (drop (e + m) rs)) ++ t j)
+      ∙ ap (λ (x : List ℕ). x ++ drop (e + (m + n)) l) (append-assoc (take e l) (take m first) (take n (take n (drop (e + m) rs))))
+      ∙ (λ j. take e l ++ b j ++ drop (e + (m + n)) l)
+
+  pub stored-on : (behind l₁ l₂ : List ℕ) → behind ≡ take n (drop (e + m) rs) → l₁ ≡ paste l e (take m (drop e rs)) m → l₂ ≡ paste l₁ (e + m) behind n
+      → l₂ ≡ paste l e (take (m + n) (drop e rs)) (m + n)
+  stored-on behind l₁ l₂ eb e₁ e₂ = e₂ ∙ (λ j. paste (e₁ j) (e + m) (eb j) n) ∙ one-by-one
 
 -- ---- all the data, and then what stood behind the forward's bytes, leave the registers as the forward's bytes do
 
@@ -68,3 +99,23 @@ module _ (rs : List ℕ) (at : ℕ) (s : List ℕ) (count : ℕ) (room : at + co
       ∙ (λ j. front j ++ take-take 32 32 rest (omega arith) j ++ back j)
       ∙ append-assoc (take at rs ++ take count s) (take 32 rest) (drop 32 rest)
       ∙ ap (λ (l : List ℕ). take at rs ++ take count s ++ l) (take-append-drop 32 rest)
+
+  -- put back eight bytes at a time
+  pub put-back-eights : {d b₀ b₁ b₂ b₃ l l₀ l₁ l₂ l₃ : List ℕ} → d ≡ take 32 s
+      → b₀ ≡ take 8 (drop (at + count) rs) → b₁ ≡ take 8 (drop (at + count + 8) rs) → b₂ ≡ take 8 (drop (at + count + 16) rs) → b₃ ≡ take 8 (drop (at + count + 24) rs)
+      → l ≡ paste rs at d 32 → l₀ ≡ paste l (at + count) b₀ 8 → l₁ ≡ paste l₀ (at + count + 8) b₁ 8 → l₂ ≡ paste l₁ (at + count + 16) b₂ 8 → l₃ ≡ paste l₂ (at + count + 24) b₃ 8
+      → l₃ ≡ paste rs at s count
+  put-back-eights {d} {b₀} {b₁} {b₂} {b₃} {l} {l₀} {l₁} {l₂} {l₃} ed e₀ e₁ e₂ e₃ el p₀ p₁ p₂ p₃ =
+      let e = at + count in
+      let long : length l ≡ length rs =
+      ap length el ∙ length-paste rs at d 32 (omega arith) (subst (λ (x : List ℕ). 32 ≤ length x) (sym ed) (subst (λ (n : ℕ). 32 ≤ n) (sym (length-take-le 32 s held)) (omega arith))) in
+      let q₀ : l₀ ≡ paste l e (take 8 (drop e rs)) 8 = p₀ ∙ ap (λ (b : List ℕ). paste l e b 8) e₀ in
+      let q₁ = stored-on rs e l long 8 8 (omega arith) b₁ l₀ l₁ e₁ q₀ p₁ in
+      let q₂ = stored-on rs e l long 16 8 (omega arith) b₂ l₁ l₂ e₂ q₁ p₂ in
+      let q₃ = stored-on rs e l long 24 8 (omega arith) b₃ l₂ l₃ e₃ q₂ p₃ in
+      put-back d (take 32 (drop e rs)) l l₃ ed refl el q₃
+
+-- at the registers' end the forward's bytes alone are stored, out of the data loaded
+pub stored-data : (rs : List ℕ) (at : ℕ) (s : List ℕ) (count : ℕ) → count ≤ 32 → (d l : List ℕ) → d ≡ take 32 s → l ≡ paste rs at d count → l ≡ paste rs at s count
+stored-data rs at s count few d l ed el =
+    el ∙ (λ j. take at rs ++ take count (ed j) ++ drop (at + count) rs) ∙ (λ j. take at rs ++ take-take count 32 s few j ++ drop (at + count) rs)

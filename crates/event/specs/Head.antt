@@ -12,9 +12,9 @@ byteAt ev k = getD ev k 0
 abbrev pub halfAt : List ℕ → ℕ → ℕ
 halfAt ev k = getD ev k 0 + 256 * getD ev (k + 1) 0
 
--- "10-15 | zero": three 16-bit numbers, whose sum is 0 where each byte is
+-- "10-15 | zero": as one number, the low byte first
 abbrev pub paddingOf : List ℕ → ℕ
-paddingOf ev = halfAt ev 10 + halfAt ev 12 + halfAt ev 14
+paddingOf ev = halfAt ev 10 + 65536 * halfAt ev 12 + 4294967296 * halfAt ev 14
 
 unfoldable pub headOf : List ℕ → Head
 headOf ev =

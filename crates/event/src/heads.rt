@@ -25,12 +25,20 @@ pub fn half(bytes: &[u8], k: usize) -> u32
     wide(bytes[k]) + 256 * wide(bytes[k + 1])
 }
 
-// Bytes 10 to 15, by pairs, added up.
-fn padding(event: &[u8]) -> u32
+// A 16-bit number, as a part of a longer one.
+fn long(bytes: &[u8], k: usize) -> u64
+    requires { ⌜ k + 1 < length (now bytes) ⌝ }
+    ensures { λ r. ⌜ (r ≡ halfAt (now (bytes .entry)) k) × (r < 65536) ⌝ }
+{
+    half(bytes, k) as u64
+}
+
+// Bytes 10 to 15 as one number.
+fn padding(event: &[u8]) -> u64
     requires { ⌜ 16 ≤ length (now event) ⌝ }
     ensures { λ r. ⌜ r ≡ paddingOf (now (event .entry)) ⌝ }
 {
-    half(event, 10) + half(event, 12) + half(event, 14)
+    long(event, 10) + 65536 * long(event, 12) + 4294967296 * long(event, 14)
 }
 
 // The head of an event of 48 bytes, of which it reads bytes 0 to 15.

@@ -21,8 +21,8 @@ pub struct Head {
     pub key: u32,
     // open: register base; forward: offset
     pub place: u32,
-    // bytes 10 to 15, by pairs, added up
-    pub padding: u32,
+    // bytes 10 to 15, as one number
+    pub padding: u64,
 }
 
 // What the recording's header says of every event: how many threads, bypass, and each thread's barrier group.

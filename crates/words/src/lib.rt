@@ -40,7 +40,7 @@ pub fn word(dw: &[u32], by: &[u8], i: usize) -> u32
 }
 
 // Stores dword k of a byte buffer.
-fn store(by: &mut [u8], k: usize, v: u32)
+pub fn store(by: &mut [u8], k: usize, v: u32)
     requires { ⌜ 4 * k + 4 ≤ length (now by) ⌝ }
     ensures { λ _. ⌜ now (by .exit) ≡ putLe (now (by .entry)) k v ⌝ }
 {

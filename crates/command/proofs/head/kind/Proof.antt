@@ -1,33 +1,32 @@
+use mathlib.Core.Path.{sym, ap}
 use Rattle.laws.proofs.BitRanges.{taken}
 use Rattle.command.specs.Kinds.{kindOf}
 use Rattle.command.proofs.Tests.{tests}
-use Rattle.command.proofs.Heads.{object-kind}
+use Rattle.command.proofs.Heads.{media-kind}
 use native.Mathlib.Omega.{arith}
 use Rattle.command.proofs.head.kind.Statement.{statement}
 use Rattle.command.proofs.head.kind.Tie as tie
 
 returns : tie.Need-returns
-returns c = object-kind _ (c .if1 .taken)
+returns c = media-kind _ 0x7100 (c .if1 .taken) (omega arith)
 
 returns-2 : tie.Need-returns-2
 unfolding kindOf
-returns-2 c = rw taken (search (tests, arith))
+returns-2 c = ap kindOf (sym (c .if2 .taken))
 
 returns-3 : tie.Need-returns-3
-unfolding kindOf
-returns-3 c = rw taken (search (tests, arith))
+returns-3 c = media-kind _ 0x7000 (c .if3 .taken) (omega arith)
 
 returns-4 : tie.Need-returns-4
 unfolding kindOf
-returns-4 c = rw taken (search (tests, arith))
+returns-4 c = ap kindOf (sym (c .if4 .taken))
 
 returns-5 : tie.Need-returns-5
-unfolding kindOf
-returns-5 c = rw taken (search (tests, arith))
+returns-5 c = media-kind _ 0x7002 (c .if5 .taken) (omega arith)
 
 returns-6 : tie.Need-returns-6
 unfolding kindOf
-returns-6 c = rw taken (search (tests, arith))
+returns-6 c = ap kindOf (sym (c .if6 .taken))
 
 returns-7 : tie.Need-returns-7
 unfolding kindOf

@@ -1,7 +1,7 @@
 use mathlib.Core.Path.{sym, _∙_}
 use native.Mathlib.Omega.{arith}
 use borrow.Author.Tests.{not-true, not-false}
-use Rattle.effects.proofs.Acks.{no-ack, no-ack-31, no-ack-32, ack-fits, ack-index, ack-stored}
+use Rattle.effects.proofs.Acks.{no-ack, no-ack-31, no-ack-32, ack-fits, ack-stored}
 use borrow.Author.Needs.{needs}
 use Rattle.effects.proofs.buffers.acknowledge.Statement.{statement}
 use Rattle.effects.proofs.buffers.acknowledge.Tie as tie
@@ -18,26 +18,23 @@ returns-2 c = no-ack-31 _ _ _ (c .if2 .taken)
 returns-3 : tie.Need-returns-3
 returns-3 c = no-ack-32 _ _ _ (c .before .if2 .left) (c .if3 .taken)
 
-slice-aggregate-store-in : tie.Need-slice-aggregate-store-in
-slice-aggregate-store-in c = search needs
+mul-store : tie.Need-mul-store
+mul-store c = omega (arith, ack-fits (c .before .before .before .before .before .before .before .args .h) (c .before .before .before .before .before .before .before .args .outcome) (c .before .before .before .before .before .before .before .args .registers .now) (sym (c .before .before .before .before .before .counted-ack .ensures) ∙ not-false (c .before .before .before .before .before .counted-ack .result) (c .before .before .before .before .if1 .left)) (c .before .before .before .if2 .left) (c .before .before .if3 .left) (c .before .before .before .before .before .before .before .pre))
 
-mul-store-in : tie.Need-mul-store-in
-mul-store-in c = omega (arith, ack-fits (c .before .before .before .before .before .before .before .before .args .h) (c .before .before .before .before .before .before .before .before .args .outcome) (c .before .before .before .before .before .before .before .before .args .registers .now) (sym (c .before .before .before .before .before .before .counted-ack .ensures) ∙ not-false (c .before .before .before .before .before .before .counted-ack .result) (c .before .before .before .before .before .if1 .left)) (c .before .before .before .before .if2 .left) (c .before .before .before .if3 .left) (c .before .before .before .before .before .before .before .before .pre))
+mul-store-2 : tie.Need-mul-store-2
+mul-store-2 c = omega (arith, ack-fits (c .before .before .before .before .before .before .before .before .args .h) (c .before .before .before .before .before .before .before .before .args .outcome) (c .before .before .before .before .before .before .before .before .args .registers .now) (sym (c .before .before .before .before .before .before .counted-ack .ensures) ∙ not-false (c .before .before .before .before .before .before .counted-ack .result) (c .before .before .before .before .before .if1 .left)) (c .before .before .before .before .if2 .left) (c .before .before .before .if3 .left) (c .before .before .before .before .before .before .before .before .pre))
 
-mul-store-in-2 : tie.Need-mul-store-in-2
-mul-store-in-2 c = omega (arith, ack-fits (c .before .before .before .before .before .before .before .before .before .args .h) (c .before .before .before .before .before .before .before .before .before .args .outcome) (c .before .before .before .before .before .before .before .before .before .args .registers .now) (sym (c .before .before .before .before .before .before .before .counted-ack .ensures) ∙ not-false (c .before .before .before .before .before .before .before .counted-ack .result) (c .before .before .before .before .before .before .if1 .left)) (c .before .before .before .before .before .if2 .left) (c .before .before .before .before .if3 .left) (c .before .before .before .before .before .before .before .before .before .pre))
+add-store : tie.Need-add-store
+add-store c = omega (arith, ack-fits (c .before .before .before .before .before .before .before .before .args .h) (c .before .before .before .before .before .before .before .before .args .outcome) (c .before .before .before .before .before .before .before .before .args .registers .now) (sym (c .before .before .before .before .before .before .counted-ack .ensures) ∙ not-false (c .before .before .before .before .before .before .counted-ack .result) (c .before .before .before .before .before .if1 .left)) (c .before .before .before .before .if2 .left) (c .before .before .before .if3 .left) (c .before .before .before .before .before .before .before .before .pre))
 
-add-store-in : tie.Need-add-store-in
-add-store-in c = omega (arith, ack-fits (c .before .before .before .before .before .before .before .before .before .args .h) (c .before .before .before .before .before .before .before .before .before .args .outcome) (c .before .before .before .before .before .before .before .before .before .args .registers .now) (sym (c .before .before .before .before .before .before .before .counted-ack .ensures) ∙ not-false (c .before .before .before .before .before .before .before .counted-ack .result) (c .before .before .before .before .before .before .if1 .left)) (c .before .before .before .before .before .if2 .left) (c .before .before .before .before .if3 .left) (c .before .before .before .before .before .before .before .before .before .pre))
-
-store-in-requires : tie.Need-store-in-requires
-store-in-requires c κs = ack-index _ _ _ (sym (c .before .before .before .before .before .before .before .counted-ack .ensures) ∙ not-false (c .before .before .before .before .before .before .before .counted-ack .result) (c .before .before .before .before .before .before .if1 .left)) (c .before .before .before .before .before .if2 .left) (c .before .before .before .before .if3 .left) (c .before .before .before .before .before .before .before .before .before .pre) _
+store-requires : tie.Need-store-requires
+store-requires c κs = ack-fits (c .before .before .before .before .before .before .before .before .args .h) (c .before .before .before .before .before .before .before .before .args .outcome) (c .before .before .before .before .before .before .before .before .args .registers .now) (sym (c .before .before .before .before .before .before .counted-ack .ensures) ∙ not-false (c .before .before .before .before .before .before .counted-ack .result) (c .before .before .before .before .before .if1 .left)) (c .before .before .before .before .if2 .left) (c .before .before .before .if3 .left) (c .before .before .before .before .before .before .before .before .pre)
 
 same-length : tie.Need-same-length
 same-length c = search needs
 
 returns-4 : tie.Need-returns-4
-returns-4 c = ack-stored _ _ _ (sym (c .before .before .before .before .before .before .before .before .before .before .before .counted-ack .ensures) ∙ not-false (c .before .before .before .before .before .before .before .before .before .before .before .counted-ack .result) (c .before .before .before .before .before .before .before .before .before .before .if1 .left)) (c .before .before .before .before .before .before .before .before .before .if2 .left) (c .before .before .before .before .before .before .before .before .if3 .left) (c .before .before .before .before .before .before .before .before .before .before .before .before .before .pre) _ _ _ (c .before .before .before .store-in .ensures .0)
+returns-4 c = ack-stored (c .before .before .before .before .before .before .before .before .before .before .before .args .h) (c .before .before .before .before .before .before .before .before .before .before .before .args .outcome) (c .before .before .before .before .before .before .before .before .before .before .before .args .registers .now) (sym (c .before .before .before .before .before .before .before .before .before .counted-ack .ensures) ∙ not-false (c .before .before .before .before .before .before .before .before .before .counted-ack .result) (c .before .before .before .before .before .before .before .before .if1 .left)) (c .before .before .before .before .before .before .before .if2 .left) (c .before .before .before .before .before .before .if3 .left) (c .before .before .before .before .before .before .before .before .before .before .before .pre) _ (c .before .before .store .ensures)
 
 pub acknowledge-spec : {M : Type 1} → statement M
 acknowledge-spec =
@@ -47,10 +44,9 @@ acknowledge-spec =
     returns
     returns-2
     returns-3
-    slice-aggregate-store-in
-    mul-store-in
-    mul-store-in-2
-    add-store-in
-    store-in-requires
+    mul-store
+    mul-store-2
+    add-store
+    store-requires
     same-length
     returns-4)

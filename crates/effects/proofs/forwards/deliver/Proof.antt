@@ -28,7 +28,7 @@ cast-write c = search needs
 write-requires : tie.Need-write-requires
 write-requires c κs = let w = c .before .before .before .window-start .ensures .0 in
     let n = c .count .ensures .0 in
-    (omega (arith, w, n, to-thread (c .before .before .before .before .before .before .before .before .args .h) (c .before .before .before .before .before .before .before .before .args .setup) (c .before .before .before .before .before .before .before .before .args .gate) (c .before .before .before .before .before .before .before .before .pre .1 .0) (c .before .before .before .before .before .before .before .before .pre .1 .1) (c .before .before .before .before .before .before .before .before .pre .1 .2), own-bytes (c .before .before .before .before .before .before .before .before .args .h) (c .before .before .before .before .before .before .before .before .args .setup) (c .before .before .before .before .before .before .before .before .args .gate) (c .before .before .before .before .before .before .before .before .pre .1 .0) (c .before .before .before .before .before .before .before .before .pre .1 .1) (c .before .before .before .before .before .before .before .before .pre .1 .2)), omega (arith, n, few-bytes (c .before .before .before .before .before .before .before .before .args .h) (c .before .before .before .before .before .before .before .before .args .setup) (c .before .before .before .before .before .before .before .before .args .gate) (c .before .before .before .before .before .before .before .before .pre .1 .0) (c .before .before .before .before .before .before .before .before .pre .1 .1) (c .before .before .before .before .before .before .before .before .pre .1 .2)))
+    (omega (arith, w, n, to-thread (c .before .before .before .before .before .before .before .before .args .h) (c .before .before .before .before .before .before .before .before .args .setup) (c .before .before .before .before .before .before .before .before .args .gate) (c .before .before .before .before .before .before .before .before .pre .1 .0) (c .before .before .before .before .before .before .before .before .pre .1 .1) (c .before .before .before .before .before .before .before .before .pre .1 .2), own-bytes (c .before .before .before .before .before .before .before .before .args .h) (c .before .before .before .before .before .before .before .before .args .setup) (c .before .before .before .before .before .before .before .before .args .gate) (c .before .before .before .before .before .before .before .before .pre .1 .0) (c .before .before .before .before .before .before .before .before .pre .1 .1) (c .before .before .before .before .before .before .before .before .pre .1 .2)), c .count .ensures .1, omega (arith, n, few-bytes (c .before .before .before .before .before .before .before .before .args .h) (c .before .before .before .before .before .before .before .before .args .setup) (c .before .before .before .before .before .before .before .before .args .gate) (c .before .before .before .before .before .before .before .before .pre .1 .0) (c .before .before .before .before .before .before .before .before .pre .1 .1) (c .before .before .before .before .before .before .before .before .pre .1 .2)))
 
 notify-requires : tie.Need-notify-requires
 notify-requires c κs = (omega (arith, to-thread (c .before .before .before .before .before .before .before .before .before .before .before .before .args .h) (c .before .before .before .before .before .before .before .before .before .before .before .before .args .setup) (c .before .before .before .before .before .before .before .before .before .before .before .before .args .gate) (c .before .before .before .before .before .before .before .before .before .before .before .before .pre .1 .0) (c .before .before .before .before .before .before .before .before .before .before .before .before .pre .1 .1) (c .before .before .before .before .before .before .before .before .before .before .before .before .pre .1 .2)), omega arith, c .before .before .before .before .before .before .before .before .before .before .before .before .pre .0 .low)

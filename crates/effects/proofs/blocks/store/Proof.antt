@@ -5,14 +5,14 @@ use Prim.Native.Nat.{_≤_, _-_}
 use lib.ListN.{length, length-set}
 use lib.Seq.{paste, paste-zero}
 use Rattle.effects.proofs.Stores.{copied-turn}
-use Rattle.effects.proofs.buffers.store.Statement.{statement}
-use Rattle.effects.proofs.buffers.store.Tie as tie
+use Rattle.effects.proofs.blocks.store.Statement.{statement}
+use Rattle.effects.proofs.blocks.store.Tie as tie
 
 abbrev Inv-loop : tie.InvT-loop
-Inv-loop bytes₀ at block i₀ bytes i = (i ≤ 32) × (bytes ≡ paste bytes₀ at block i) × (length bytes ≡ length bytes₀)
+Inv-loop bytes₀ at count block i₀ bytes i = (i ≤ count) × (bytes ≡ paste bytes₀ at block i) × (length bytes ≡ length bytes₀)
 
 abbrev μ-loop : tie.MeasureT-loop
-μ-loop bytes₀ at block i₀ bytes i = 32 - i
+μ-loop bytes₀ at count block i₀ bytes i = count - i
 
 loop-holds : tie.Need-loop-holds Inv-loop μ-loop
 loop-holds c = (omega arith, paste-zero (c .args .bytes .now) (c .args .at) (c .args .t3), refl)

@@ -3,8 +3,8 @@ use mathlib.Core.Path.{_≡_, refl, _∙_}
 use Prim.Native.Nat.{_≤_, _-_}
 use lib.ListN.{length, length-set, take, drop}
 use Rattle.effects.proofs.Stores.{loaded-turn, loaded}
-use Rattle.effects.proofs.buffers.load.Statement.{statement}
-use Rattle.effects.proofs.buffers.load.Tie as tie
+use Rattle.effects.proofs.blocks.load.Statement.{statement}
+use Rattle.effects.proofs.blocks.load.Tie as tie
 
 abbrev Inv-loop : tie.InvT-loop
 Inv-loop bytes at block₀ i₀ block i = (i ≤ 32) × (take i block ≡ take i (take 32 (drop at bytes))) × (length block ≡ 32)
@@ -34,13 +34,13 @@ loop-again : tie.Need-loop-again Inv-loop μ-loop
 loop-again c = let a = c .before .before .before .args in
     let l = c .before .before .loop in (
       omega arith,
-      loaded-turn (a .bytes .now) (a .at) (omega arith) (l .block) (l .i) (omega arith) (l .inv .2) (l .inv .1),
+      loaded-turn 32 (a .bytes .now) (a .at) (omega arith) (l .block) (l .i) (omega arith) (l .inv .2) (l .inv .1),
       length-set (l .block) (l .i) _ ∙ l .inv .2,
     )
 
 returns : tie.Need-returns Inv-loop μ-loop
 returns c = let a = c .before .before .args in
-    let l = c .before .loop in loaded (a .bytes .now) (a .at) (omega arith) (l .block) (l .i) (c .loop-test .left) (l .inv .2) (l .inv .1)
+    let l = c .before .loop in loaded 32 (a .bytes .now) (a .at) (omega arith) (l .block) (l .i) (c .loop-test .left) (l .inv .2) (l .inv .1)
 
 pub load-spec : {M : Type 1} → statement M
 load-spec =
