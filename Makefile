@@ -1,4 +1,4 @@
-# make run: the listing of a sample batch. make shim: the C program that calls both checks. make test: the gate. make bench: the benchmark.
+# make run: the listing of a sample batch. make shim: the C programs. make test: the gate. make bench: the benchmark.
 .PHONY: run shim test bench lib
 
 run:
@@ -6,9 +6,11 @@ run:
 	@rt check mpl_list >/dev/null || { echo "mpl_list is not proved: rt check mpl_list says why"; exit 1; }
 	@target/bin/mpl_list <samples/worked.bin
 
-shim: lib
+shim: target/bin/mpl_shim target/bin/mpl_replay
+
+target/bin/mpl_shim target/bin/mpl_replay: target/bin/mpl_%: shim/%.c shim/files.c lib
 	@mkdir -p target/bin
-	gcc -std=c11 -O2 -Wall -Wextra -Werror -pedantic -Iinclude shim/shim.c target/staticlib/libmpl.a -o target/bin/mpl_shim
+	gcc -std=c11 -O2 -Wall -Wextra -Werror -pedantic -Iinclude $(filter %.c,$^) target/staticlib/libmpl.a -o $@
 
 test:
 	bash .ci/run

@@ -2,13 +2,11 @@
  * The shim as a program: lends buffers, asks both checks about a batch and a run, and says what their numbers and places mean.
  * Exit status: 0 both accept; 1 one refuses; 2 they were not asked, and standard error says why.
  */
-#include <errno.h>
 #include <inttypes.h>
-#include <stdbool.h>
 #include <stdio.h>
 #include <stdlib.h>
-#include <string.h>
 
+#include "files.h"
 #include "mpl.h"
 
 enum { ACCEPTED = 0, REFUSED = 1, NOT_ASKED = 2 };
@@ -16,6 +14,7 @@ enum { ACCEPTED = 0, REFUSED = 1, NOT_ASKED = 2 };
 /* More than any batch that is accepted, so that it is the library that refuses a long one. */
 enum { FILE_BYTES_MOST = 1 << 20 };
 
+const char program[] = "mpl_shim";
 static const char usage[] = "usage: mpl_shim BATCH RUN [CAPACITY]\n"
                             "BATCH, RUN: files of little-endian dwords, at most 1 MiB; CAPACITY: of the URB, in 256-bit rows (2048)\n";
 static const uint32_t usual_capacity = 2048;
@@ -62,46 +61,12 @@ static const struct meaning *meaning_of(uint64_t number)
     return &unknown;
 }
 
-static bool complain(const char *what, const char *why)
+/* The byte past the most tells a file that is too large. */
+static bool read_words(const char *path, struct buffer *file)
 {
-    fprintf(stderr, "mpl_shim: %s: %s\n", what, why);
-    return false;
-}
-
-struct buffer {
-    uint8_t *bytes;
-    size_t len;
-};
-
-/*
- * Exactly len bytes, so that valgrind sees a step outside them; not cleared, so that it sees one used before it is set. With length 0 the
- * pointer is null, as mpl.h permits.
- */
-static bool allocate(struct buffer *buffer, size_t len)
-{
-    buffer->len = len;
-    buffer->bytes = len > 0 ? malloc(len) : NULL;
-    return len == 0 || buffer->bytes != NULL || complain("memory", "ran out");
-}
-
-static bool read_file(const char *path, struct buffer *file)
-{
-    static uint8_t scratch[FILE_BYTES_MOST + 1]; /* the last byte tells a file that is too large */
-    FILE *in = fopen(path, "rb");
-    if (in == NULL)
-        return complain(path, strerror(errno));
-    size_t len = fread(scratch, 1, sizeof scratch, in);
-    bool failed = ferror(in) != 0;
-    fclose(in);
-    if (failed)
-        return complain(path, "cannot be read");
-    if (len > FILE_BYTES_MOST)
-        return complain(path, "over 1 MiB");
-    if (!allocate(file, len))
+    if (!read_file(path, FILE_BYTES_MOST + 1, file))
         return false;
-    if (len > 0) /* memcpy takes no null */
-        memcpy(file->bytes, scratch, len);
-    return true;
+    return file->len <= FILE_BYTES_MOST || complain(path, "over 1 MiB");
 }
 
 struct lent {
@@ -111,7 +76,7 @@ struct lent {
 /* A command is a dword or more, so a record and a state byte to each dword is room for all; a batch over the most needs none. */
 static bool make_lent(struct lent *lent, const char *batch_path, const char *run_path)
 {
-    if (!read_file(batch_path, &lent->batch) || !read_file(run_path, &lent->run))
+    if (!read_words(batch_path, &lent->batch) || !read_words(run_path, &lent->run))
         return false;
     size_t room = lent->batch.len / 4;
     if (room > MPL_BATCH_DWORDS_MOST)
