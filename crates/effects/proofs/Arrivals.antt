@@ -94,14 +94,20 @@ as-arrival h s members waiting k = simp (eq-eqb _ _ k)
 pub as-other : (h : Head) (s : Setup) (members waiting : List ℕ) → (h .kind ≡ 4 → ⊥) → decisionOf h s closed [] ≡ messageOf h s members waiting
 as-other h s members waiting n = simp (ne-eqb _ _ n)
 
+-- what is x after each decision that an arrival may have is x after its own
+pub arrival-kept : {A : Type 0} (f : Decision → A) (x : A) (h : Head) (s : Setup) (w m : ℕ)
+    → ((n : ℕ) → x ≡ f (Refused n)) → ((t : ℕ) → x ≡ f (Wait t)) → ((g : ℕ) → x ≡ f (Release g)) → x ≡ f (arrivalOf h s w m)
+unfolding arrivalOf
+arrival-kept f x h s w m er ew el =
+    by-cond (λ (d : Decision). x ≡ f d) (malformed 4 h (s .threads)) _ _ (λ _. er 31) λ _.
+    by-cond (λ (d : Decision). x ≡ f d) (eqb (ownGroup h s) 255) _ _ (λ _. er 38) λ _.
+    by-cond (λ (d : Decision). x ≡ f d) (eqb (w / 2 ^ h .sender % 2) 1) _ _ (λ _. er 39) λ _.
+    by-cond (λ (d : Decision). x ≡ f d) (eqb (w + 2 ^ h .sender) m) _ _ (λ _. el (ownGroup h s)) (λ _. ew (h .sender))
+
 -- no arrival sets a barrier's byte
 pub arrival-bytes : (h : Head) (s : Setup) (w m : ℕ) (bs : List ℕ) → bs ≡ bytesAfter (arrivalOf h s w m) bs
-unfolding arrivalOf bytesAfter
-arrival-bytes h s w m bs =
-    by-cond (λ (d : Decision). bs ≡ bytesAfter d bs) (malformed 4 h (s .threads)) _ _ (λ _. refl) λ _.
-    by-cond (λ (d : Decision). bs ≡ bytesAfter d bs) (eqb (ownGroup h s) 255) _ _ (λ _. refl) λ _.
-    by-cond (λ (d : Decision). bs ≡ bytesAfter d bs) (eqb (w / 2 ^ h .sender % 2) 1) _ _ (λ _. refl) λ _.
-    by-cond (λ (d : Decision). bs ≡ bytesAfter d bs) (eqb (w + 2 ^ h .sender) m) _ _ (λ _. refl) (λ _. refl)
+unfolding bytesAfter
+arrival-bytes h s w m bs = arrival-kept (λ (d : Decision). bytesAfter d bs) bs h s w m (λ _. refl) (λ _. refl) (λ _. refl)
 
 -- an arrival whose outcome is not 31 is not malformed
 pub arrival-formed : (h : Head) (s : Setup) (w m : ℕ) → h .kind ≡ 4 → (outcomeOf (arrivalOf h s w m) ≡ 31 → ⊥) → malformed (h .kind) h (s .threads) ≡ false

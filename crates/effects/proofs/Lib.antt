@@ -5,3 +5,5 @@ pub mod Refused
 pub mod Members
 pub mod Deliveries
 pub mod Arrivals
+pub mod LeftAlone
+pub mod GatewayWords

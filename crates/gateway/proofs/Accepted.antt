@@ -15,7 +15,8 @@ use Rattle.laws.proofs.Rows.{noRow, no-row}
 use Rattle.event.specs.declared.Setup.{Setup}
 use Rattle.event.specs.Groups.{noGroup, groupOf}
 use Rattle.gateway.specs.Recording.{headerRows, lengthRows, threadsOf, eventsOf, groupByte, strayGroup, strayGroupOf, groupsOf, setupOf, refusalOf}
-use Rattle.gateway.specs.Replay.{World, start, runOf, Running, Replay, refusedAnswer, ended, runWhole, replayOf}
+use Rattle.gateway.specs.Steps.{Running}
+use Rattle.gateway.specs.Replay.{World, start, runOf, Replay, refusedAnswer, ended, runWhole, replayOf}
 
 module _ (rec : List ℕ) (registers counts outcomes : ℕ) (passed : refusalOf rec registers counts outcomes ≡ 0) where
   abbrev rows : List Row

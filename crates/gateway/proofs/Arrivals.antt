@@ -28,7 +28,8 @@ use Rattle.effects.specs.Effects.{released, waitsAfter}
 use Rattle.effects.specs.Barriers.{memberMask, masks, memberMasks, ownGroup, slotOf, arrivalOf, messageOf, waitingAfter}
 use Rattle.effects.proofs.Members.{mask-at, masks-same, masks-set}
 use Rattle.effects.proofs.Arrivals.{as-arrival, as-other}
-use Rattle.gateway.specs.Replay.{State, waitingOf, waitingIn, barrierOf, emptyBarrier, barriersOf, barriersFrom}
+use Rattle.gateway.specs.Replay.{State, waitingOf, barrierOf, emptyBarrier, barriersOf}
+use Rattle.gateway.specs.Steps.{waitingIn, barriersFrom}
 use Rattle.gateway.proofs.Masks.{waiting-lt, bit-tells, none-waiting, whole-mask, waiting-same, waiting-set}
 use Rattle.gateway.proofs.Barriers.{released-at, released-other, none-waits}
 

@@ -1,6 +1,6 @@
 pub mod Header
 pub mod Turns
-pub mod LeftAlone
+pub mod Steps
 pub mod Bounds
 pub mod Masks
 pub mod Accepted

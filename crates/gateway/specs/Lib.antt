@@ -1,4 +1,5 @@
 pub mod Recording
 pub mod Replay
+pub mod Steps
 pub mod Claims
 pub mod Isolation

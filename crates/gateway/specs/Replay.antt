@@ -1,7 +1,6 @@
 -- The replay: document 01, "Else gateways start closed, barriers empty with byte 0, counts zero; each event writes one outcome byte and the
 -- replay goes on. Outcome bytes past the events stay. The answer holds the end gateways and barriers."
-use mathlib.Core.Path.{_≡_}
-use Prim.Native.Nat.{ℕ, zero, suc, _+_, _*_, _^_, _≤_, _<_}
+use Prim.Native.Nat.{ℕ, zero, suc, _+_, _^_}
 use mathlib.Core.Bool.{Bool, false, cond, _&&_}
 use mathlib.Core.List.{List}
 use lib.Dec.{eqb}
@@ -12,14 +11,13 @@ use Rattle.event.specs.declared.Setup.{Setup}
 use Rattle.event.specs.Decision.{Decision}
 use Rattle.event.specs.Head.{headOf}
 use Rattle.event.specs.Codes.{closed, gatewayAt}
-use Rattle.event.specs.Groups.{noGroup, groupOf, waitsOf}
+use Rattle.event.specs.Groups.{groupOf, waitsOf}
 use Rattle.event.specs.Outcomes.{decisionOf, outcomeOf}
 use Rattle.event.specs.declared.Gateway.{Gateway}
 use Rattle.gateway.specs.declared.Barrier.{Barrier}
 use Rattle.gateway.specs.declared.Replayed.{Replayed}
-use Rattle.gateway.specs.Recording.{threadsOf, setupOf, eventsOf, eventAt, refusalOf}
+use Rattle.gateway.specs.Recording.{setupOf, eventsOf, eventAt, refusalOf}
 use Rattle.effects.specs.Effects.{gatewaysAfter, bytesAfter, waitsAfter, countsAfter, forwarded, withAck}
-use Rattle.effects.specs.Barriers.{masks}
 
 -- What an event leaves to the next: each thread's gateway, each barrier's byte, and which threads wait.
 pub record State : Type 0 where
@@ -68,18 +66,6 @@ unfoldable pub runOf : List ℕ → Setup → ℕ → World → World
 runOf rec s zero w = w
 runOf rec s (suc n) w = stepOf s (eventAt rec n) n (runOf rec s n w)
 
--- What a run needs: a recording whose events fill it, and lent buffers as row 16 leaves them, with the counts cleared.
-pub record Running (rec : List ℕ) (s : Setup) (events : ℕ) (registers counts outcomes : List ℕ) : Type 0 where
-  pub few : s .threads ≤ 16
-  pub same : s .threads ≡ threadsOf rec
-  pub whole : length rec ≡ 10 + s .threads + 48 * events
-  pub most : events < 65536
-  pub own : length registers ≡ 4096 * s .threads
-  pub two : length counts ≡ 2 * s .threads
-  pub clear : (k : ℕ) → getD counts k 0 ≡ 0
-  pub room : events ≤ length outcomes
-  pub grouped : (t : ℕ) → t < s .threads → (groupOf (s .groups) t ≡ noGroup → ⊥) → groupOf (s .groups) t < 16
-
 -- "gateways start closed, barriers empty with byte 0"
 abbrev pub start : State
 start = record { gateways = replicate 16 closed; bytes = replicate 16 0; waits = replicate 16 false }
@@ -94,19 +80,6 @@ waitingOf zero groups b waits = 0
 waitingOf (suc n) groups b waits =
     cond (eqb (groupOf groups n) b && waitsOf waits n) (waitingOf n groups b waits + 2 ^ n) (waitingOf n groups b waits)
 
--- a mask for each barrier, as the code keeps them
-abbrev pub waitingIn : Setup → List Bool → List ℕ
-waitingIn s waits = masks (λ b. waitingOf (s .threads) (s .groups) b waits)
-
--- A world, as a run leaves it.
-pub record Kept (s : Setup) (w : World) (gateways : List Gateway) (bytes waiting registers counts outcomes : List ℕ) : Type 0 where
-  pub own-gateways : gateways ≡ w .state .gateways
-  pub own-bytes : bytes ≡ w .state .bytes
-  pub own-waiting : waiting ≡ waitingIn s (w .state .waits)
-  pub own-registers : registers ≡ w .registers
-  pub own-counts : counts ≡ w .counts
-  pub own-outcomes : outcomes ≡ w .outcomes
-
 abbrev pub barrierOf : Setup → State → ℕ → Barrier
 barrierOf s w b = record { byte = getD (w .bytes) b 0; waiting = waitingOf (s .threads) (s .groups) b (w .waits) }
 
@@ -115,10 +88,6 @@ emptyBarrier = record { byte = 0; waiting = 0 }
 
 unfoldable pub barriersOf : Setup → State → List Barrier
 barriersOf s w = filled (barrierOf s w) 16 (replicate 16 emptyBarrier)
-
--- the same of bytes and masks
-unfoldable pub barriersFrom : List ℕ → List ℕ → List Barrier
-barriersFrom bytes waiting = filled (λ b. record { byte = getD bytes b 0; waiting = getD waiting b 0 }) 16 (replicate 16 emptyBarrier)
 
 -- The answer: "The answer holds the end gateways and barriers"; a refusal's are closed and empty.
 abbrev pub refusedAnswer : ℕ → Replayed

@@ -1,10 +1,31 @@
 // What the replay answers.
 ghost use mathlib.Core.Path.{_≡_};
-ghost use Rattle.gateway.specs.Replay.{barriersFrom, refusedAnswer};
+ghost use Rattle.effects.specs.Gateways.{gatewaysIn};
+ghost use Rattle.gateway.specs.Replay.{refusedAnswer};
+ghost use Rattle.gateway.specs.Steps.{barriersFrom};
 use crate::Barrier;
 use crate::Ended;
 use crate::Replayed;
+use effects::gateways::gateway;
 use event::Gateway;
+
+// The gateways, out of their words.
+fn gateways(words: [u32; 64]) -> [Gateway; 16]
+    ensures { λ r. ⌜ r ≡ gatewaysIn words ⌝ }
+{
+    let mut gateways = [Gateway {
+        live: 0,
+        base: 0,
+        size: 0,
+        key: 0,
+    }; 16];
+    let mut t: usize = 0;
+    while t < 16 {
+        gateways[t] = gateway(&words, t);
+        t += 1;
+    }
+    gateways
+}
 
 // The barriers, each with its byte and who waits.
 fn barriers(bytes: [u32; 16], waiting: [u32; 16]) -> [Barrier; 16]
@@ -48,11 +69,12 @@ pub fn refused(number: u32) -> Replayed
 
 // The gateways and the barriers at the end.
 pub fn ended(end: Ended) -> Replayed
-    ensures { λ r. ⌜ r ≡ record { number = 0; gateways = end .gateways; barriers = barriersFrom (end .bytes) (end .waiting) } ⌝ }
+    ensures { λ r. ⌜ r ≡ record { number = 0; gateways = gatewaysIn (end .gateways); barriers = barriersFrom (end .bytes) (end .waiting) } ⌝ }
 {
-    let gateways = end.gateways;
+    let words = end.gateways;
     let bytes = end.bytes;
     let waiting = end.waiting;
+    let gateways = gateways(words);
     let barriers = barriers(bytes, waiting);
     Replayed {
         number: 0,

@@ -8,6 +8,7 @@ use event::heads::half;
 pub mod answer;
 pub mod recording;
 pub mod run;
+pub mod step;
 
 // A barrier. Bit t of `waiting`: thread t waits.
 #[repr(C)]
@@ -24,9 +25,9 @@ pub struct Replayed {
     pub barriers: [Barrier; 16],
 }
 
-// What the events leave beside the lent buffers: the gateways, and each barrier's byte and who waits, bit t for thread t.
+// What the events leave beside the lent buffers: the gateways, four words a thread, and each barrier's byte and who waits, bit t for thread t.
 pub struct Ended {
-    pub gateways: [Gateway; 16],
+    pub gateways: [u32; 64],
     pub bytes: [u32; 16],
     pub waiting: [u32; 16],
 }

@@ -7,7 +7,8 @@ use lib.ListN.{getD, set, replicate}
 use Rattle.laws.specs.Filled.{filled}
 use Rattle.laws.proofs.Filled.{filled-turn}
 use Rattle.gateway.specs.declared.Barrier.{Barrier}
-use Rattle.gateway.specs.Replay.{emptyBarrier, barriersFrom}
+use Rattle.gateway.specs.Replay.{emptyBarrier}
+use Rattle.gateway.specs.Steps.{barriersFrom}
 use Rattle.gateway.proofs.answer.barriers.Statement.{statement}
 use Rattle.gateway.proofs.answer.barriers.Tie as tie
 

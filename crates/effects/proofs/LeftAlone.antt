@@ -1,24 +1,27 @@
 -- What an event of a kind leaves as it was. Assumes nothing.
 use mathlib.Core.Path.{_≡_, refl, sym, ap, _∙_}
 use mathlib.Core.Bool.{Bool}
-use mathlib.Core.List.{List}
+use mathlib.Core.List.{List, []}
 use Prim.Native.Nat.{ℕ, _≤_, _<_}
 use native.Mathlib.Omega.{arith}
 use lib.Dec.{eqb}
 use lib.ListN.{set}
 use borrow.Author.Tests.{eqb-true, eqb-false}
-use Rattle.laws.proofs.Choices.{by-test}
+use Rattle.laws.proofs.Choices.{by-cond, by-test}
 use Rattle.event.specs.declared.Head.{Head}
 use Rattle.event.specs.declared.Setup.{Setup}
 use Rattle.event.specs.declared.Gateway.{Gateway}
 use Rattle.event.specs.Decision.{Decision, Refused, Open, Close, Forward, Wait, Release, Update}
-use Rattle.event.specs.Outcomes.{ends, opensOrEnds, decisionOf, outcomeOf}
+use Rattle.event.specs.Codes.{closed}
+use Rattle.event.specs.Outcomes.{ends, isBarrier, opensOrEnds, decisionOf, outcomeOf}
 use Rattle.event.specs.Gateways.{gatewayLeft}
 use Rattle.event.proofs.Formed.{formed-sender}
 use Rattle.event.proofs.Reach.{formed-of}
 use Rattle.event.proofs.Sources.{Source, decision-source}
 use Rattle.event.proofs.Passed.{passed-as}
 use Rattle.effects.specs.Effects.{gatewaysAfter, bytesAfter, waitsAfter, countsAfter, forwarded}
+use Rattle.effects.specs.Barriers.{messageOf, waitingAfter}
+use Rattle.effects.proofs.Arrivals.{arrival-kept}
 
 module _ (h : Head) (s : Setup) (g : Gateway) (ws : List Bool) where
   abbrev d : Decision
@@ -89,3 +92,24 @@ module _ (h : Head) (s : Setup) (g : Gateway) (ws : List Bool) where
   -- whoever passes is a thread
   pub passed-sender : outcomeOf d ≡ 0 → h .sender < s .threads
   passed-sender o = formed-sender k h (s .threads) (formed-of h s g ws (λ e. omega arith))
+
+  -- the masks, which only a barrier message changes
+  pub waiting-kept : (k ≡ 4 → ⊥) → (b : ℕ) (ms : List ℕ) → ms ≡ waitingAfter d b ms
+  unfolding waitingAfter
+  waiting-kept n b ms =
+      by-source (λ (e : Decision). waitingAfter e b ms) ms d (decision-source h s g ws) (λ _. refl) (λ _ _ _ _ _. refl) (λ _ _. refl)
+      (λ _ _ _ _ _. refl) (λ _ q. absurd (n q)) (λ _ q. absurd (n q)) (λ _ _ _. refl)
+
+-- an event that is neither an open, a close nor a forward opens and writes nothing
+module _ (h : Head) (s : Setup) (members ms : List ℕ) (l : 2 < h .kind) where
+  pub message-gateways : (gs : List Gateway) → gs ≡ gatewaysAfter (messageOf h s members ms) gs
+  unfolding gatewaysAfter
+  message-gateways gs =
+      by-cond (λ (d : Decision). gs ≡ gatewaysAfter d gs) (isBarrier (h .kind)) _ _
+      (λ _. arrival-kept (λ (d : Decision). gatewaysAfter d gs) gs h s _ _ (λ _. refl) (λ _. refl) (λ _. refl)) (λ _. gateways-kept h s closed [] (omega arith) gs)
+
+  pub message-registers : (ev rs : List ℕ) → rs ≡ forwarded (messageOf h s members ms) ev rs
+  unfolding forwarded
+  message-registers ev rs =
+      by-cond (λ (d : Decision). rs ≡ forwarded d ev rs) (isBarrier (h .kind)) _ _
+      (λ _. arrival-kept (λ (d : Decision). forwarded d ev rs) rs h s _ _ (λ _. refl) (λ _. refl) (λ _. refl)) (λ _. registers-kept h s closed [] (λ z. omega arith) ev rs)

@@ -1,0 +1,85 @@
+use native.Mathlib.Omega.{arith}
+use Rattle.gateway.proofs.Steps.{forward-leaves, open-or-close-leaves, message-leaves}
+use borrow.Author.Needs.{needs}
+use Rattle.gateway.proofs.step.step.Statement.{statement}
+use Rattle.gateway.proofs.step.step.Tie as tie
+
+head-requires : tie.Need-head-requires
+head-requires c κs = search needs
+
+gateway-requires : tie.Need-gateway-requires
+gateway-requires c κs = search needs
+
+forward-requires : tie.Need-forward-requires
+forward-requires c κs = let p = c .before .before .before .before .before .before .before .before .before .before .before .before .before .before .pre in
+    (record { few = p .rest .few; event = p .event; own = p .rest .own; two = p .rest .two; low = p .rest .low }, (rw (c .before .before .gateway .ensures) (p .windows _), c .before .before .before .before .if1 .taken))
+
+same-length : tie.Need-same-length
+same-length c = search needs
+
+same-length-2 : tie.Need-same-length-2
+same-length-2 c = search needs
+
+same-length-3 : tie.Need-same-length-3
+same-length-3 c = search needs
+
+returns : tie.Need-returns
+returns c = let a = c .before .before .before .before .before .before .before .before .before .before .before .before .before .before .before .before .before .before .before .args in
+    let e = c .before .before .before .before .forward .ensures in
+    forward-leaves (a .setup) (a .event .now) (c .before .before .before .before .before .before .before .before .before .before .before .head .result) (c .before .before .before .before .before .before .before .before .before .before .before .head .ensures) (a .members .now) (a .gateways .now) (a .waiting .now) (a .bytes .now) (a .registers .now) (a .counts .now) (c .before .before .before .before .before .before .before .before .before .if1 .taken) (c .before .before .before .before .before .before .before .gateway .ensures) (e .0) (e .1) (e .2)
+
+open-or-close-requires : tie.Need-open-or-close-requires
+open-or-close-requires c κs = search needs
+
+same-length-4 : tie.Need-same-length-4
+same-length-4 c = search needs
+
+same-length-5 : tie.Need-same-length-5
+same-length-5 c = search needs
+
+returns-2 : tie.Need-returns-2
+returns-2 c = let a = c .before .before .before .before .before .before .before .before .before .before .before .before .before .before .before .before .before .before .before .args in
+    let e = c .before .before .before .before .open-or-close .ensures in
+    open-or-close-leaves (a .setup) (a .event .now) (c .before .before .before .before .before .before .before .before .before .before .before .head .result) (c .before .before .before .before .before .before .before .before .before .before .before .head .ensures) (a .members .now) (a .gateways .now) (a .waiting .now) (a .bytes .now) (a .registers .now) (a .counts .now) (c .before .before .before .before .before .before .before .if2 .taken) (e .0) (e .1) (e .2)
+
+message-requires : tie.Need-message-requires
+message-requires c κs = search needs
+
+same-length-6 : tie.Need-same-length-6
+same-length-6 c = search needs
+
+same-length-7 : tie.Need-same-length-7
+same-length-7 c = search needs
+
+same-length-8 : tie.Need-same-length-8
+same-length-8 c = search needs
+
+same-length-9 : tie.Need-same-length-9
+same-length-9 c = search needs
+
+returns-3 : tie.Need-returns-3
+returns-3 c = let a = c .before .before .before .before .before .before .before .before .before .before .before .before .before .before .before .before .before .before .before .before .before .before .before .before .before .args in
+    let e = c .before .before .before .before .before .before .before .before .message .ensures in
+    message-leaves (a .setup) (a .event .now) (c .before .before .before .before .before .before .before .before .before .before .before .before .before .before .before .before .before .head .result) (c .before .before .before .before .before .before .before .before .before .before .before .before .before .before .before .before .before .head .ensures) (a .members .now) (a .gateways .now) (a .waiting .now) (a .bytes .now) (a .registers .now) (a .counts .now) (omega (arith, c .before .before .before .before .before .before .before .before .before .before .before .before .before .before .before .if1 .left, c .before .before .before .before .before .before .before .before .before .before .before .before .before .if2 .left)) (e .0) (e .1) (e .2) (e .3) (e .4)
+
+pub step-spec : {M : Type 1} → statement M
+step-spec =
+    tie.close
+    (tie.spec
+    head-requires
+    gateway-requires
+    forward-requires
+    same-length
+    same-length-2
+    same-length-3
+    returns
+    open-or-close-requires
+    same-length-4
+    same-length-5
+    returns-2
+    message-requires
+    same-length-6
+    same-length-7
+    same-length-8
+    same-length-9
+    returns-3)
