@@ -17,8 +17,9 @@ use Rattle.event.proofs.Formed.{update-barrier}
 use Rattle.event.proofs.Reach.{formed-of}
 use Rattle.event.proofs.ByKind.{formed-as}
 use Rattle.event.proofs.Passed.{passed-as}
-use Rattle.effects.specs.Effects.{bytesAfter, paid, countsAfter}
-use Rattle.effects.specs.Barriers.{ownGroup, slotOf, arrivalOf, messageOf, waitingAfter}
+use Rattle.effects.specs.Effects.{bytesAfter, groupNotified, countsAfter}
+use Rattle.event.specs.Groups.{ownGroup}
+use Rattle.effects.specs.Barriers.{slotOf, arrivalOf, messageOf, waitingAfter}
 use Rattle.effects.proofs.Refused.{refusal}
 
 module _ (h : Head) (s : Setup) (w m : ℕ) (k : h .kind ≡ 4) where
@@ -74,7 +75,7 @@ module _ (h : Head) (s : Setup) (members ws cs : List ℕ) (k : h .kind ≡ 4) w
         arrived : getD ws (slotOf h s) 0 + x ≡ getD ws (slotOf h s) 0 + 2 ^ h .sender
         arrived = ap (λ (y : ℕ). getD ws (slotOf h s) 0 + y) bit
 
-        pub left-whole : {cs′ : List ℕ} → getD ws (slotOf h s) 0 + x ≡ getD members (slotOf h s) 0 → cs′ ≡ paid (s .threads) (s .groups) (ownGroup h s) cs
+        pub left-whole : {cs′ : List ℕ} → getD ws (slotOf h s) 0 + x ≡ getD members (slotOf h s) 0 → cs′ ≡ groupNotified (s .threads) (s .groups) (ownGroup h s) cs
             → Left 0 (set ws (slotOf h s) 0) cs′ own
         unfolding outcomeOf waitingAfter countsAfter
         left-whole e p = subst (Left 0 (set ws (slotOf h s) 0) _) (arrival-whole h s _ _ k f n new (sym arrived ∙ e)) (refl, refl, p)

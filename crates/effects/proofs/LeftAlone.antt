@@ -19,7 +19,7 @@ use Rattle.event.proofs.Formed.{formed-sender}
 use Rattle.event.proofs.Reach.{formed-of}
 use Rattle.event.proofs.Sources.{Source, decision-source}
 use Rattle.event.proofs.Passed.{passed-as}
-use Rattle.effects.specs.Effects.{gatewaysAfter, bytesAfter, waitsAfter, countsAfter, forwarded}
+use Rattle.effects.specs.Effects.{gatewaysAfter, bytesAfter, countsAfter, forwarded}
 use Rattle.effects.specs.Barriers.{messageOf, waitingAfter}
 use Rattle.effects.proofs.Arrivals.{arrival-kept}
 
@@ -55,12 +55,6 @@ module _ (h : Head) (s : Setup) (g : Gateway) (ws : List Bool) where
   bytes-kept n bs =
       by-source (λ (e : Decision). bytesAfter e bs) bs d (decision-source h s g ws) (λ _. refl) (λ _ _ _ _ _. refl) (λ _ _. refl)
       (λ _ _ _ _ _. refl) (λ _ _. refl) (λ _ _. refl) (λ _ _ q. absurd (n q))
-
-  pub waits-kept : (k ≡ 4 → ⊥) → ws ≡ waitsAfter d s ws
-  unfolding waitsAfter
-  waits-kept n =
-      by-source (λ (e : Decision). waitsAfter e s ws) ws d (decision-source h s g ws) (λ _. refl) (λ _ _ _ _ _. refl) (λ _ _. refl)
-      (λ _ _ _ _ _. refl) (λ _ q. absurd (n q)) (λ _ q. absurd (n q)) (λ _ _ _. refl)
 
   pub counts-kept : (k ≡ 2 → ⊥) → (k ≡ 4 → ⊥) → (cs : List ℕ) → cs ≡ countsAfter d s cs
   unfolding countsAfter

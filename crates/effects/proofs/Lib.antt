@@ -1,4 +1,4 @@
-pub mod Groups
+pub mod CountLaws
 pub mod Stores
 pub mod Acks
 pub mod Refused

@@ -12,7 +12,7 @@ use Rattle.event.specs.declared.Head.{Head}
 use Rattle.event.specs.declared.Setup.{Setup}
 use Rattle.event.specs.Decision.{Decision, Refused, Open, Close, Forward, Wait, Release, Update}
 use Rattle.event.specs.Codes.{closed}
-use Rattle.event.specs.Groups.{noGroup, groupOf}
+use Rattle.event.specs.Groups.{noGroup, groupOf, ownGroup}
 use Rattle.event.specs.Outcomes.{isBarrier, malformed, when, refused, decisionOf}
 
 -- the members of group b among the first n threads
@@ -26,9 +26,6 @@ masks f = filled f 16 (replicate 16 0)
 
 abbrev pub memberMasks : Setup → List ℕ
 memberMasks s = masks (memberMask (s .threads) (s .groups))
-
-abbrev pub ownGroup : Head → Setup → ℕ
-ownGroup h s = groupOf (s .groups) (h .sender)
 
 -- where the sender's barrier is kept; a group byte is its barrier's number, or 255
 abbrev pub slotOf : Head → Setup → ℕ

@@ -65,9 +65,9 @@ unfoldable pub notified : ℕ → ℕ → List ℕ → List ℕ
 notified r notify cs = cond (eqb notify 1) (oneMore cs (n0 r)) (cond (eqb notify 2) (oneMore cs (n2 r)) cs)
 
 -- "each gets one N0": the members of group g among the first n threads
-unfoldable pub paid : ℕ → List ℕ → ℕ → List ℕ → List ℕ
-paid zero groups g cs = cs
-paid (suc n) groups g cs = cond (eqb (groupOf groups n) g) (oneMore (paid n groups g cs) (n0 n)) (paid n groups g cs)
+unfoldable pub groupNotified : ℕ → List ℕ → ℕ → List ℕ → List ℕ
+groupNotified zero groups g cs = cs
+groupNotified (suc n) groups g cs = cond (eqb (groupOf groups n) g) (oneMore (groupNotified n groups g cs) (n0 n)) (groupNotified n groups g cs)
 
 unfoldable pub countsAfter : Decision → Setup → List ℕ → List ℕ
 countsAfter (Refused n) s cs = cs
@@ -75,7 +75,7 @@ countsAfter (Open t b z k) s cs = cs
 countsAfter (Close t) s cs = cs
 countsAfter (Forward r a n m) s cs = notified r m cs
 countsAfter (Wait t) s cs = cs
-countsAfter (Release g) s cs = paid (s .threads) (s .groups) g cs
+countsAfter (Release g) s cs = groupNotified (s .threads) (s .groups) g cs
 countsAfter (Update b v) s cs = cs
 
 -- "A forward writes its 2^code bytes": those of the event's data, which stands from byte 16 on
@@ -89,8 +89,8 @@ forwarded (Release g) ev rs = rs
 forwarded (Update b v) ev rs = rs
 
 -- The acknowledgement is the outcome, as a dword.
-abbrev pub ackDword : ℕ → ℕ
-ackDword outcome = outcome
+abbrev pub ackOf : ℕ → ℕ
+ackOf outcome = outcome
 
 -- "a counted ack with outcome not 31 or 32"
 abbrev pub acknowledged : Head → ℕ → Bool
@@ -102,7 +102,7 @@ ackPlace h = 1024 * h .sender + 8 * h .register
 
 -- "Last, a counted ack with outcome not 31 or 32 writes the outcome as four bytes, low first, at the start of the sender's ack register."
 unfoldable pub withAck : Head → ℕ → List ℕ → List ℕ
-withAck h outcome rs = cond (acknowledged h outcome) (putLe rs (ackPlace h) (ackDword outcome)) rs
+withAck h outcome rs = cond (acknowledged h outcome) (putLe rs (ackPlace h) (ackOf outcome)) rs
 
 -- What an effect needs: an event of 48 bytes, and lent buffers as long as row 16 leaves them.
 pub record Room (s : Setup) (ev registers counts : List ℕ) : Type 0 where

@@ -9,7 +9,7 @@ ghost use Rattle.event.specs.Outcomes.{decisionOf, outcomeOf};
 ghost use Rattle.effects.specs.Effects.{bytesAfter, countsAfter, withAck};
 ghost use Rattle.effects.specs.Barriers.{memberMasks, slotOf, arrivalOf, messageOf, waitingAfter, BarrierRoom};
 use crate::buffers::acknowledge;
-use crate::buffers::pay;
+use crate::buffers::notify_group;
 use event::Head;
 use event::Setup;
 use event::form::is_malformed;
@@ -70,7 +70,7 @@ fn arrive(h: Head, setup: Setup, members: &[u32], waiting: &mut [u32], counts: &
     }
     let arrived = waiting[b] + bit(sender);
     if arrived == members[b] {
-        pay(setup, group, counts);
+        notify_group(setup, group, counts);
         waiting[b] = 0;
         return 0;
     }

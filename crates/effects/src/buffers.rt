@@ -3,7 +3,7 @@ ghost use mathlib.Core.Path.{_≡_};
 ghost use mathlib.Core.Bool.{true, cond};
 ghost use Prim.Native.Nat.{ℕ, _+_, _*_, _≤_, _<_};
 ghost use lib.ListN.{length, getD};
-ghost use Rattle.effects.specs.Effects.{oneMore, notified, paid, acknowledged, ackPlace, withAck};
+ghost use Rattle.effects.specs.Effects.{oneMore, notified, groupNotified, acknowledged, ackPlace, withAck};
 use event::Head;
 use event::Setup;
 use event::form::counted_ack;
@@ -36,9 +36,9 @@ pub fn notify(counts: &mut [u32], to: usize, notify: u32)
 }
 
 // Each member of a group gets one N0.
-pub fn pay(setup: Setup, group: u8, counts: &mut [u32])
+pub fn notify_group(setup: Setup, group: u8, counts: &mut [u32])
     requires { ⌜ (setup .threads ≤ 16) × (length (now counts) ≡ 2 * setup .threads) × ((k : ℕ) → getD (now counts) k 0 < 4294967295) ⌝ }
-    ensures { λ _. ⌜ now (counts .exit) ≡ paid (setup .threads) (setup .groups) group (now (counts .entry)) ⌝ }
+    ensures { λ _. ⌜ now (counts .exit) ≡ groupNotified (setup .threads) (setup .groups) group (now (counts .entry)) ⌝ }
 {
     let threads = setup.threads;
     let groups = setup.groups;

@@ -12,24 +12,17 @@ use Rattle.event.specs.declared.Head.{Head}
 use Rattle.event.specs.declared.Setup.{Setup}
 use Rattle.event.specs.declared.Gateway.{Gateway}
 use Rattle.event.specs.Decision.{Decision, Refused, Open, Close, Forward, Wait, Release, Update}
-use Rattle.event.specs.Groups.{groupOf, waitsOf, wholeOf}
-use Rattle.event.specs.Outcomes.{ends, bypassed, windowStart, malformed, ruledOf, decisionOf}
+use Rattle.event.specs.Groups.{waitsOf, ownGroup, wholeWith}
+use Rattle.event.specs.Outcomes.{ends, bypassed, windowStart, forwardStart, malformed, ruledOf, decisionOf}
 use Rattle.event.proofs.Formed.{formed-kind}
 use Rattle.event.proofs.Rules.{left-over}
 use Rattle.event.proofs.Reach.{decided-31, decided-formed}
-
--- the group of the sender, and whether it waits whole once the sender does
-abbrev pub ownGroup : Head → Setup → ℕ
-ownGroup h s = groupOf (s .groups) (h .sender)
-
-abbrev pub wholeThen : Head → Setup → List Bool → Bool
-wholeThen h s waits = wholeOf s (ownGroup h s) (set waits (h .sender) true)
 
 -- what an event of kind k with this head must be, for a decision to be its own
 pub record Forwards (k : ℕ) (h : Head) (s : Setup) (g : Gateway) (r a n m : ℕ) : Type 0 where
   pub kind : k ≡ 2
   pub to : r ≡ h .target
-  pub at : a ≡ 4096 * h .target + windowStart s g + h .place
+  pub at : a ≡ forwardStart h s g
   pub count : n ≡ 2 ^ h .code
   pub notify : m ≡ h .notify
 
@@ -37,7 +30,7 @@ pub record Arrives (k : ℕ) (h : Head) (s : Setup) (waits : List Bool) (whole :
   pub kind : k ≡ 4
   pub group : ownGroup h s ≡ 255 → ⊥
   pub new : waitsOf waits (h .sender) ≡ false
-  pub then : wholeThen h s waits ≡ whole
+  pub then : wholeWith h s waits ≡ whole
 
 unfoldable pub Source : ℕ → Head → Setup → Gateway → List Bool → Decision → Type 0
 Source k h s g waits (Refused n) = Unit {0}
@@ -81,7 +74,7 @@ module _ (h : Head) (s : Setup) (g : Gateway) (waits : List Bool) where
   barrier-source =
       by-cond (Source 4 h s g waits) (eqb (ownGroup h s) 255) _ _ (λ _. tt) λ n.
       by-cond (Source 4 h s g waits) (waitsOf waits (h .sender)) _ _ (λ _. tt) λ w.
-      by-cond (Source 4 h s g waits) (wholeThen h s waits) _ _
+      by-cond (Source 4 h s g waits) (wholeWith h s waits) _ _
       (λ e. (refl, record { kind = refl; group = eqb-false (ownGroup h s) 255 n; new = w; then = e }))
       (λ e. (refl, record { kind = refl; group = eqb-false (ownGroup h s) 255 n; new = w; then = e }))
 

@@ -4,7 +4,8 @@ use Prim.Native.Nat.{ℕ, zero, suc, _+_}
 use mathlib.Core.Bool.{Bool, true, false, cond, _&&_}
 use mathlib.Core.List.{List}
 use lib.Dec.{eqb}
-use lib.ListN.{getD}
+use lib.ListN.{getD, set}
+use Rattle.event.specs.declared.Head.{Head}
 use Rattle.event.specs.declared.Setup.{Setup}
 
 abbrev pub noGroup : ℕ
@@ -34,3 +35,10 @@ wholeOf s g waits = allWait (s .threads) (s .groups) g waits
 -- the group's size
 abbrev pub groupSize : Setup → ℕ → ℕ
 groupSize s g = membersOf (s .threads) (s .groups) g
+
+-- the sender's group, and whether it waits whole once the sender does
+abbrev pub ownGroup : Head → Setup → ℕ
+ownGroup h s = groupOf (s .groups) (h .sender)
+
+abbrev pub wholeWith : Head → Setup → List Bool → Bool
+wholeWith h s waits = wholeOf s (ownGroup h s) (set waits (h .sender) true)

@@ -4,7 +4,6 @@ use Prim.Native.Nat.{ℕ, _+_, _*_}
 use mathlib.Core.Bool.{Bool, true, not, cond, _&&_, _||_}
 use mathlib.Core.List.{List, [], _∷_}
 use lib.Dec.{ltb, leb, eqb}
-use lib.ListN.{set}
 use Rattle.laws.specs.Rows.{Row, row, firstRow}
 use Rattle.laws.specs.AnyOf.{anyOf}
 use Rattle.event.specs.declared.Head.{Head}
@@ -12,27 +11,34 @@ use Rattle.event.specs.declared.Setup.{Setup}
 use Rattle.event.specs.declared.Gateway.{Gateway}
 use Rattle.event.specs.Decision.{Decision, Refused, Open, Close, Forward, Wait, Release, Update}
 use Rattle.event.specs.Codes.{countOf}
-use Rattle.event.specs.Groups.{noGroup, groupOf, waitsOf, wholeOf}
+use Rattle.event.specs.Groups.{noGroup, waitsOf, ownGroup, wholeWith}
 
--- Kinds: "004's SubFuncID". k is the head's kind.
+-- Kinds: "004's SubFuncID", with the names that 004 gives. k is the head's kind, passed on its own so that a law can go by kind.
+-- OpenGateway
 abbrev pub isOpen : ℕ → Bool
 isOpen k = eqb k 0
 
+-- CloseGateway
 abbrev pub isClose : ℕ → Bool
 isClose k = eqb k 1
 
+-- ForwardMsg
 abbrev pub isForward : ℕ → Bool
 isForward k = eqb k 2
 
+-- GetTimeStamp
 abbrev pub isTimestamp : ℕ → Bool
 isTimestamp k = eqb k 3
 
+-- BarrierMsg
 abbrev pub isBarrier : ℕ → Bool
 isBarrier k = eqb k 4
 
+-- UpdateGatewayState
 abbrev pub isUpdate : ℕ → Bool
 isUpdate k = eqb k 5
 
+-- MMIO Read/Write
 abbrev pub isMmio : ℕ → Bool
 isMmio k = eqb k 6
 
@@ -120,7 +126,7 @@ ruleRows k h s g waits =
     -- 37: "offset + 2^length code bytes over 32 x 2^size code"
     ∷ when 37 (isForward k && ltb (windowLimit s g) (h .place + countOf (h .code)))
     -- 38, 39: "barrier: sender has no group; already waiting"
-    ∷ when 38 (isBarrier k && eqb (groupOf (s .groups) (h .sender)) noGroup)
+    ∷ when 38 (isBarrier k && eqb (ownGroup h s) noGroup)
     ∷ when 39 (isBarrier k && waitsOf waits (h .sender))
     ∷ []
 
@@ -129,13 +135,15 @@ abbrev pub opensOrEnds : Head → Decision
 opensOrEnds h = cond (ends h) (Close (h .sender)) (Open (h .sender) (h .place) (h .code) (h .key))
 
 -- "A forward writes its 2^code bytes at 32 x base + offset of the recipient"; a thread has 4,096 bytes of registers
+abbrev pub forwardStart : Head → Setup → Gateway → ℕ
+forwardStart h s g = 4096 * h .target + windowStart s g + h .place
+
 abbrev pub forwards : Head → Setup → Gateway → Decision
-forwards h s g = Forward (h .target) (4096 * h .target + windowStart s g + h .place) (countOf (h .code)) (h .notify)
+forwards h s g = Forward (h .target) (forwardStart h s g) (countOf (h .code)) (h .notify)
 
 -- "When every member of a group waits, each gets one N0 and all are released."
 abbrev pub arrives : Head → Setup → List Bool → Decision
-arrives h s waits =
-    cond (wholeOf s (groupOf (s .groups) (h .sender)) (set waits (h .sender) true)) (Release (groupOf (s .groups) (h .sender))) (Wait (h .sender))
+arrives h s waits = cond (wholeWith h s waits) (Release (ownGroup h s)) (Wait (h .sender))
 
 -- What an event does that no row refuses. "An update sets the barrier byte."
 abbrev pub accepted : ℕ → Head → Setup → Gateway → List Bool → Decision

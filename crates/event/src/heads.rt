@@ -4,15 +4,10 @@ ghost use Prim.Native.Nat.{_+_, _*_, _<_, _≤_};
 ghost use lib.ListN.{length};
 ghost use Rattle.event.specs.Head.{halfAt, paddingOf, headOf};
 use crate::Head;
+use words::wide;
 
-fn wide(x: u8) -> u32
+pub fn index(x: u8) -> usize
     ensures { λ r. ⌜ (r ≡ x) × (r < 256) ⌝ }
-{
-    x as u32
-}
-
-fn index(x: u8) -> usize
-    ensures { λ r. ⌜ r ≡ x ⌝ }
 {
     x as usize
 }

@@ -18,14 +18,14 @@ use Rattle.event.specs.declared.Setup.{Setup}
 use Rattle.event.specs.declared.Gateway.{Gateway}
 use Rattle.event.specs.Decision.{Decision, Refused, Open, Close, Forward, Wait, Release, Update}
 use Rattle.event.specs.Codes.{closed}
-use Rattle.event.specs.Groups.{noGroup, groupOf, waitsOf, wholeOf}
+use Rattle.event.specs.Groups.{noGroup, groupOf, waitsOf, wholeOf, ownGroup}
 use Rattle.event.specs.Outcomes.{malformed, decidedOf, decisionOf, outcomeOf}
 use Rattle.event.proofs.Formed.{formed-sender}
 use Rattle.event.proofs.Reach.{formed-of}
 use Rattle.event.proofs.ByKind.{other-same}
 use Rattle.event.proofs.Sources.{Source, decision-source}
 use Rattle.effects.specs.Effects.{released, waitsAfter}
-use Rattle.effects.specs.Barriers.{memberMask, masks, memberMasks, ownGroup, slotOf, arrivalOf, messageOf, waitingAfter}
+use Rattle.effects.specs.Barriers.{memberMask, masks, memberMasks, slotOf, arrivalOf, messageOf, waitingAfter}
 use Rattle.effects.proofs.Members.{mask-at, masks-same, masks-set}
 use Rattle.effects.proofs.Arrivals.{as-arrival, as-other}
 use Rattle.gateway.specs.Replay.{State, waitingOf, barrierOf, emptyBarrier, barriersOf}

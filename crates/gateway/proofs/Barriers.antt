@@ -15,7 +15,7 @@ use Rattle.event.specs.declared.Gateway.{Gateway}
 use Rattle.event.specs.Decision.{Decision, Refused, Open, Close, Forward, Wait, Release, Update}
 use Rattle.event.specs.Head.{headOf}
 use Rattle.event.specs.Codes.{gatewayAt}
-use Rattle.event.specs.Groups.{groupOf, waitsOf, allWait, wholeOf}
+use Rattle.event.specs.Groups.{groupOf, waitsOf, allWait, wholeOf, wholeWith}
 use Rattle.event.specs.Outcomes.{outcomeOf}
 use Rattle.event.specs.Within.{Within}
 use Rattle.event.proofs.Reach.{decision-within}
@@ -24,7 +24,7 @@ use Rattle.event.proofs.Waiting.{one-missing}
 use Rattle.gateway.specs.Recording.{eventAt}
 use Rattle.effects.specs.Effects.{released, waitsAfter}
 use Rattle.gateway.specs.Replay.{World, decisionIn, stepOf, runOf, waitingOf}
-use Rattle.gateway.specs.Claims.{releases, Sound, Freed}
+use Rattle.gateway.specs.Claims.{Sound, NoneWaits}
 use Rattle.gateway.proofs.Bounds.{Windows, run-windows}
 use Rattle.gateway.proofs.Masks.{bitOf, mask-bit}
 
@@ -139,7 +139,7 @@ module _ (s : Setup) (waits : List Bool) where
     none-whole-after (Update b v) z m = m
 
     -- a barrier message that makes its group wait whole frees it
-    freed-after : (d : Decision) → Source (h .kind) h s g waits d → Within s d → h .kind ≡ 4 → outcomeOf d ≡ 0 → releases s h waits ≡ true
+    freed-after : (d : Decision) → Source (h .kind) h s g waits d → Within s d → h .kind ≡ 4 → outcomeOf d ≡ 0 → wholeWith h s waits ≡ true
         → (t : ℕ) → t < s .threads → groupOf (s .groups) t ≡ groupOf (s .groups) (h .sender) → waitsOf (waitsAfter d s waits) t ≡ false
     unfolding Source Within outcomeOf waitsAfter
     freed-after (Refused n) z w k o r = absurd (omega (arith, w .0))
@@ -211,7 +211,7 @@ module _ (rec : List ℕ) (s : Setup) (w : World) (v : Windows (w .state .gatewa
 
   -- and after event n, where it is a release
   pub release-frees : (n : ℕ) → headOf (eventAt rec n) .kind ≡ 4 → outcomeOf (decisionIn s (eventAt rec n) (runOf rec s n w .state)) ≡ 0
-      → releases s (headOf (eventAt rec n)) (runOf rec s n w .state .waits) ≡ true
-      → Freed s (groupOf (s .groups) (headOf (eventAt rec n) .sender)) (runOf rec s (suc n) w .state)
+      → wholeWith (headOf (eventAt rec n)) s (runOf rec s n w .state .waits) ≡ true
+      → NoneWaits s (groupOf (s .groups) (headOf (eventAt rec n) .sender)) (runOf rec s (suc n) w .state)
   unfolding runOf stepOf
   release-frees n k o r = freed-after s (q n .state .waits) (h n) (g n) (decisionIn s (eventAt rec n) (q n .state)) (source n) (within n) k o r

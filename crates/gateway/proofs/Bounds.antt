@@ -15,9 +15,9 @@ use Rattle.event.specs.Groups.{groupOf}
 use Rattle.event.specs.Within.{Within}
 use Rattle.event.proofs.Reach.{decision-within}
 use Rattle.gateway.specs.Recording.{eventAt}
-use Rattle.effects.specs.Effects.{gatewaysAfter, notified, paid, countsAfter}
+use Rattle.effects.specs.Effects.{gatewaysAfter, notified, groupNotified, countsAfter}
 use Rattle.gateway.specs.Replay.{World, decisionIn, stepOf, runOf}
-use Rattle.effects.proofs.Groups.{paid-later}
+use Rattle.effects.proofs.CountLaws.{groupNotified-later}
 
 -- what holds of each element, and of the default, holds after a store of what it holds of
 all-set : {A : Type 0} (P : A → Type 0) (l : List A) (d : A) (w : ℕ) (v : A) → ((i : ℕ) → P (getD l i d)) → P v → (i : ℕ) → P (getD (set l w v) i d)
@@ -84,13 +84,13 @@ notified-most r m n cs h =
     by-cond (Most (n + 1)) (eqb m 1) _ _ (λ _. set-most cs (n + 1) (2 * r) _ (more n cs h) (omega (arith, h (2 * r)))) λ _.
     by-cond (Most (n + 1)) (eqb m 2) _ _ (λ _. set-most cs (n + 1) (2 * r + 1) _ (more n cs h) (omega (arith, h (2 * r + 1)))) λ _. more n cs h
 
-paid-most : (groups : List ℕ) (g : ℕ) (cs : List ℕ) (n m : ℕ) → Most n cs → Most (n + 1) (paid m groups g cs)
-unfolding paid
-paid-most groups g cs n zero h = more n cs h
-paid-most groups g cs n (suc m) h =
-    let ih = paid-most groups g cs n m h in
+groupNotified-most : (groups : List ℕ) (g : ℕ) (cs : List ℕ) (n m : ℕ) → Most n cs → Most (n + 1) (groupNotified m groups g cs)
+unfolding groupNotified
+groupNotified-most groups g cs n zero h = more n cs h
+groupNotified-most groups g cs n (suc m) h =
+    let ih = groupNotified-most groups g cs n m h in
     by-cond (Most (n + 1)) (eqb (groupOf groups m) g) _ _
-    (λ _. set-most (paid m groups g cs) (n + 1) (2 * m) _ ih (omega (arith, paid-later groups g cs m (2 * m) (omega arith), h (2 * m)))) (λ _. ih)
+    (λ _. set-most (groupNotified m groups g cs) (n + 1) (2 * m) _ ih (omega (arith, groupNotified-later groups g cs m (2 * m) (omega arith), h (2 * m)))) (λ _. ih)
 
 counts-most : (d : Decision) (s : Setup) (cs : List ℕ) (n : ℕ) → Most n cs → Most (n + 1) (countsAfter d s cs)
 unfolding countsAfter
@@ -99,7 +99,7 @@ counts-most (Open t b z k) s cs n h = more n cs h
 counts-most (Close t) s cs n h = more n cs h
 counts-most (Forward r a x m) s cs n h = notified-most r m n cs h
 counts-most (Wait t) s cs n h = more n cs h
-counts-most (Release g) s cs n h = paid-most (s .groups) g cs n (s .threads) h
+counts-most (Release g) s cs n h = groupNotified-most (s .groups) g cs n (s .threads) h
 counts-most (Update b v) s cs n h = more n cs h
 
 module _ (rec : List ℕ) (s : Setup) (w : World) (clear : (k : ℕ) → getD (w .counts) k 0 ≡ 0) where

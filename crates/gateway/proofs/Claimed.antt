@@ -5,8 +5,9 @@ use Prim.Native.Nat.{ℕ, zero, suc, _*_, _≤_, _<_}
 use native.Mathlib.Omega.{arith}
 use lib.ListN.{length, getD, drop, length-take, length-drop, length-replicate}
 use lib.Seq.{length-paste}
-use borrow.Author.Tests.{eq-eqb}
-use Rattle.laws.proofs.Choices.{by-cond}
+use lib.Dec.{eqb}
+use borrow.Author.Tests.{eq-eqb, eqb-true}
+use Rattle.laws.proofs.Choices.{by-cond, by-test}
 use Rattle.words.proofs.Dwords.{length-put}
 use Rattle.event.specs.declared.Head.{Head}
 use Rattle.event.specs.declared.Setup.{Setup}
@@ -19,10 +20,10 @@ use Rattle.event.proofs.Reach.{decision-within}
 use Rattle.gateway.specs.Recording.{threadsOf, eventsOf, setupOf, eventAt, refusalOf}
 use Rattle.effects.specs.Effects.{forwarded, acknowledged, withAck}
 use Rattle.gateway.specs.Replay.{World, decisionIn, stepOf, runOf, begun, Replay, ended, runWhole, replayOf}
-use Rattle.gateway.specs.Claims.{Counted, Unchanged, end, met, headAt, outcomeAt, Claimed}
+use Rattle.gateway.specs.Claims.{Counted, Unchanged, end, met, headAt, outcomeAt, Claimed, Claims, Numbered}
 use Rattle.gateway.proofs.Accepted.{events-fill, registers-own, counts-two, outcomes-room, zeros}
 use Rattle.gateway.proofs.Bounds.{Windows, start-windows, run-windows}
-use Rattle.gateway.proofs.Counts.{outcome-at, counted}
+use Rattle.gateway.proofs.Counts.{outcome-at, outcome-past, counted}
 use Rattle.gateway.proofs.Events.{refused-unchanged, forward-written}
 use Rattle.gateway.proofs.Barriers.{sound, release-frees}
 
@@ -99,9 +100,9 @@ module _ (rec registers counts outcomes : List ℕ) (passed : refusalOf rec (len
   all-counted : Counted rec s (end rec registers counts outcomes .outcomes) N w
   all-counted = subst (λ (o : List ℕ). Counted rec s o N w) (sym (ap (λ (r : Replay). r .outcomes) at-end)) (counted rec s w N room two clear start-windows N (omega arith))
 
-  pub claimed : Claimed rec registers counts outcomes
+  all-claimed : Claimed rec registers counts outcomes
   unfolding runOf stepOf
-  claimed =
+  all-claimed =
       let m = met rec registers counts outcomes in
       record {
         n0s = rw (at-end, ← threads) (rw at-end at (all-counted .n0s));
@@ -112,6 +113,16 @@ module _ (rec registers counts outcomes : List ℕ) (passed : refusalOf rec (len
           written = forward-written s (eventAt rec n) (m n .state) (m n .registers) (event-long n h) (registers-long n (omega arith)) (run-windows rec s n w start-windows (headAt rec registers counts outcomes n .target)) k (sym (outcome-is n h) ∙ o);
           then = ap (λ (x : ℕ). withAck (headAt rec registers counts outcomes n) x (forwarded (decisionIn s (eventAt rec n) (m n .state)) (eventAt rec n) (m n .registers))) (sym (outcome-is n h) ∙ o);
         };
+        past = λ k h. ap (λ (r : Replay). getD (r .outcomes) k 0) at-end ∙ outcome-past rec s w N k h;
         barriers = λ n. sound rec s w start-windows refl n;
         release = λ n h o k r. release-frees rec s w start-windows n k (sym (outcome-is n h) ∙ o) r;
       }
+
+pub claimed : Claims
+claimed rec registers counts outcomes passed = all-claimed rec registers counts outcomes passed
+
+pub numbered : Numbered
+unfolding replayOf
+numbered rec registers counts outcomes =
+    let n = refusalOf rec (length registers) (length counts) (length outcomes) in
+    by-test (eqb n 0) (λ e. simp e (sym (eqb-true n 0 e))) (λ e. simp e refl)

@@ -16,16 +16,16 @@ use Rattle.event.specs.declared.Gateway.{Gateway}
 use Rattle.event.specs.Decision.{Decision, Refused, Open, Close, Forward, Wait, Release, Update}
 use Rattle.event.specs.Head.{headOf}
 use Rattle.event.specs.Codes.{gatewayAt}
-use Rattle.event.specs.Groups.{groupOf, membersOf, groupSize}
+use Rattle.event.specs.Groups.{groupOf, membersOf, groupSize, wholeWith}
 use Rattle.event.specs.Outcomes.{decisionOf, outcomeOf}
 use Rattle.event.specs.Within.{Within}
 use Rattle.event.proofs.Reach.{decision-within}
 use Rattle.event.proofs.Sources.{Source, decision-source}
 use Rattle.gateway.specs.Recording.{eventAt}
-use Rattle.effects.specs.Effects.{n0, n2, oneMore, notified, paid, countsAfter}
+use Rattle.effects.specs.Effects.{n0, n2, oneMore, notified, groupNotified, countsAfter}
 use Rattle.gateway.specs.Replay.{World, decisionIn, stepOf, runOf}
-use Rattle.gateway.specs.Claims.{totalOf, notification, releases, releaseSize, notifications, releaseSizes, Counted}
-use Rattle.effects.proofs.Groups.{paid-long}
+use Rattle.gateway.specs.Claims.{totalOf, notification, releaseSize, notifications, releaseSizes, Counted}
+use Rattle.effects.proofs.CountLaws.{groupNotified-long}
 use Rattle.gateway.proofs.Bounds.{Windows, run-windows}
 
 -- ---- totals
@@ -54,24 +54,24 @@ module _ (place : ℕ → ℕ) where
       let y : getD (oneMore cs (place r)) (place n) 0 ≡ getD cs (place n) 0 = getD-set-other cs (place r) (place n) (getD cs (place r) 0 + 1) 0 (h n (omega arith) m) in
       omega arith)
 
--- each member of a group paid
-total-paid : (groups : List ℕ) (g : ℕ) (cs : List ℕ) (n m : ℕ) → m ≤ n → 2 * n ≤ length cs → totalOf n0 n (paid m groups g cs) ≡ totalOf n0 n cs + membersOf m groups g
-unfolding paid membersOf
-total-paid groups g cs n zero h l = omega arith
-total-paid groups g cs n (suc m) h l =
-    let ih = total-paid groups g cs n m (omega arith) l in
-    let b : length (paid m groups g cs) ≡ length cs = paid-long groups g cs m in
+-- each member of a group groupNotified
+total-groupNotified : (groups : List ℕ) (g : ℕ) (cs : List ℕ) (n m : ℕ) → m ≤ n → 2 * n ≤ length cs → totalOf n0 n (groupNotified m groups g cs) ≡ totalOf n0 n cs + membersOf m groups g
+unfolding groupNotified membersOf
+total-groupNotified groups g cs n zero h l = omega arith
+total-groupNotified groups g cs n (suc m) h l =
+    let ih = total-groupNotified groups g cs n m (omega arith) l in
+    let b : length (groupNotified m groups g cs) ≡ length cs = groupNotified-long groups g cs m in
     two-cond (λ (x : List ℕ) (y : ℕ). totalOf n0 n x ≡ totalOf n0 n cs + y) (eqb (groupOf groups m) g) _ _ _ _
-    (λ _. omega (arith, total-hit n0 (paid m groups g cs) m n (λ i k z e. z (omega arith)) (omega arith) (omega arith))) (λ _. ih)
+    (λ _. omega (arith, total-hit n0 (groupNotified m groups g cs) m n (λ i k z e. z (omega arith)) (omega arith) (omega arith))) (λ _. ih)
 
 -- which leaves N2 as it was
-total-spared : (groups : List ℕ) (g : ℕ) (cs : List ℕ) (n m : ℕ) → totalOf n2 n (paid m groups g cs) ≡ totalOf n2 n cs
-unfolding paid
+total-spared : (groups : List ℕ) (g : ℕ) (cs : List ℕ) (n m : ℕ) → totalOf n2 n (groupNotified m groups g cs) ≡ totalOf n2 n cs
+unfolding groupNotified
 total-spared groups g cs n zero = refl
 total-spared groups g cs n (suc m) =
     let ih = total-spared groups g cs n m in
     by-cond (λ (x : List ℕ). totalOf n2 n x ≡ totalOf n2 n cs) (eqb (groupOf groups m) g) _ _
-    (λ _. total-miss n2 (paid m groups g cs) (n0 m) _ n (λ i k e. omega arith) ∙ ih) (λ _. ih)
+    (λ _. total-miss n2 (groupNotified m groups g cs) (n0 m) _ n (λ i k e. omega arith) ∙ ih) (λ _. ih)
 
 -- ---- one event
 
@@ -110,11 +110,11 @@ module _ (h : Head) (s : Setup) (g : Gateway) (waits : List Bool) (cs : List ℕ
   unfolding notification
   untold m v k e q = simp (eq-eqb _ _ k, e, q)
 
-  freed : h .kind ≡ 4 → releases s h waits ≡ true → releaseSize s h 0 waits ≡ groupSize s (groupOf (s .groups) (h .sender))
+  freed : h .kind ≡ 4 → wholeWith h s waits ≡ true → releaseSize s h 0 waits ≡ groupSize s (groupOf (s .groups) (h .sender))
   unfolding releaseSize
   freed k e = simp (eq-eqb _ _ k, e)
 
-  unfreed : h .kind ≡ 4 → releases s h waits ≡ false → releaseSize s h 0 waits ≡ 0
+  unfreed : h .kind ≡ 4 → wholeWith h s waits ≡ false → releaseSize s h 0 waits ≡ 0
   unfolding releaseSize
   unfreed k e = simp (eq-eqb _ _ k, e)
 
@@ -151,7 +151,7 @@ module _ (h : Head) (s : Setup) (g : Gateway) (waits : List Bool) (cs : List ℕ
   adds-0 (Release b) z w =
       let q = freed (z .1 .kind) (z .1 .then) in
       let e : membersOf t (s .groups) b ≡ groupSize s (groupOf (s .groups) (h .sender)) = ap (membersOf t (s .groups)) (z .0) in
-      omega (arith, no-notification 1 0 (λ e. omega (arith, z .1 .kind)), total-paid (s .groups) b cs t t (omega arith) l)
+      omega (arith, no-notification 1 0 (λ e. omega (arith, z .1 .kind)), total-groupNotified (s .groups) b cs t t (omega arith) l)
   adds-0 (Update b v) z w = omega (arith, no-notification 1 0 (λ e. omega arith), no-release 0 (λ e. omega arith))
 
   adds-2 : (d : Decision) → Source (h .kind) h s g waits d → Within s d → Adds2 d
@@ -175,7 +175,7 @@ counts-long (Forward r a n m) s cs =
     by-cond (λ (l : List ℕ). length l ≡ length cs) (eqb m 1) _ _ (λ _. simp length-set) λ _.
     by-cond (λ (l : List ℕ). length l ≡ length cs) (eqb m 2) _ _ (λ _. simp length-set) (λ _. refl)
 counts-long (Wait t) s cs = refl
-counts-long (Release g) s cs = paid-long (s .groups) g cs (s .threads)
+counts-long (Release g) s cs = groupNotified-long (s .groups) g cs (s .threads)
 counts-long (Update b v) s cs = refl
 
 module _ (rec : List ℕ) (s : Setup) (w : World) where
@@ -188,6 +188,12 @@ module _ (rec : List ℕ) (s : Setup) (w : World) where
   unfolding runOf stepOf
   run-outcomes-long zero = refl
   run-outcomes-long (suc n) = simp length-set (run-outcomes-long n)
+
+  -- past the events no outcome byte changes
+  pub outcome-past : (n k : ℕ) → n ≤ k → getD (runOf rec s n w .outcomes) k 0 ≡ getD (w .outcomes) k 0
+  unfolding runOf stepOf
+  outcome-past zero k h = refl
+  outcome-past (suc n) k h = getD-set-other (runOf rec s n w .outcomes) n k _ 0 (λ e. omega arith) ∙ outcome-past n k (omega arith)
 
   -- event i's outcome byte is that of its own decision, and no later event changes it
   pub outcome-at : (n i : ℕ) → i < n → n ≤ length (w .outcomes)

@@ -50,7 +50,7 @@ run-waits-long rec s w zero = refl
 run-waits-long rec s w (suc n) = waits-long s (decisionIn s (eventAt rec n) (runOf rec s n w .state)) (runOf rec s n w .state .waits) ∙ run-waits-long rec s w n
 
 -- ---- what the loop keeps after i events
-pub record Going (rec : List ℕ) (s : Setup) (events : ℕ) (w₀ : World) (gws bs ms rs cs os : List ℕ) (i : ℕ) : Type 0 where
+pub record AtEvent (rec : List ℕ) (s : Setup) (events : ℕ) (w₀ : World) (gws bs ms rs cs os : List ℕ) (i : ℕ) : Type 0 where
   pub most : i ≤ events
   pub kept : Kept s (runOf rec s i w₀) gws bs ms rs cs os
   pub registers-long : length rs ≡ length (w₀ .registers)
@@ -61,7 +61,7 @@ pub record Going (rec : List ℕ) (s : Setup) (events : ℕ) (w₀ : World) (gws
 
 module _ (rec : List ℕ) (s : Setup) (events : ℕ) (w₀ : World) (few : s .threads ≤ 16)
     (grouped : (t : ℕ) → t < s .threads → (groupOf (s .groups) t ≡ noGroup → ⊥) → groupOf (s .groups) t < 16) (all : length (w₀ .state .waits) ≡ 16)
-    {gws bs ms rs cs os : List ℕ} {i : ℕ} (now : Going rec s events w₀ gws bs ms rs cs os i) (more : i < events) (ev : List ℕ) (event : ev ≡ eventAt rec i)
+    {gws bs ms rs cs os : List ℕ} {i : ℕ} (now : AtEvent rec s events w₀ gws bs ms rs cs os i) (more : i < events) (ev : List ℕ) (event : ev ≡ eventAt rec i)
     {members : List ℕ} (masked : members ≡ memberMasks s)
   where
     abbrev h : Head
@@ -91,7 +91,7 @@ module _ (rec : List ℕ) (s : Setup) (events : ℕ) (w₀ : World) (few : s .th
 
     pub step-turn : {gws′ bs′ ms′ rs′ cs′ os′ : List ℕ} {o : ℕ} → Stepped s ev (decidedBy h s (gatewaysIn gws) members ms) o gws ms bs rs cs gws′ ms′ bs′ rs′ cs′
         → os′ ≡ set os i o → length gws′ ≡ length gws → length bs′ ≡ length bs → length rs′ ≡ length rs → length cs′ ≡ length cs
-        → Going rec s events w₀ gws′ bs′ ms′ rs′ cs′ os′ (i + 1)
+        → AtEvent rec s events w₀ gws′ bs′ ms′ rs′ cs′ os′ (i + 1)
     step-turn {gws′} {bs′} {ms′} {rs′} {cs′} {os′} {o} left eos lg lb lr lc =
         record {
           most = omega arith;

@@ -11,9 +11,9 @@ use Rattle.event.specs.declared.Head.{Head}
 use Rattle.event.specs.declared.Setup.{Setup}
 use Rattle.event.specs.Head.{headOf}
 use Rattle.event.specs.Codes.{countOf, gatewayAt}
-use Rattle.event.specs.Groups.{noGroup, groupOf, waitsOf, wholeOf, groupSize}
-use Rattle.event.specs.Outcomes.{isForward, isBarrier, windowStart}
-use Rattle.gateway.specs.Recording.{threadsOf, eventsOf, setupOf, eventAt}
+use Rattle.event.specs.Groups.{noGroup, groupOf, waitsOf, wholeOf, groupSize, ownGroup, wholeWith}
+use Rattle.event.specs.Outcomes.{isForward, isBarrier, forwardStart}
+use Rattle.gateway.specs.Recording.{threadsOf, eventsOf, setupOf, eventAt, refusalOf}
 use Rattle.effects.specs.Effects.{n0, n2, ackPlace, withAck}
 use Rattle.gateway.specs.Replay.{State, World, barrierOf, runOf, stepOf, begun, Replay, replayOf}
 
@@ -29,12 +29,9 @@ unfoldable pub notification : ℕ → Head → ℕ → ℕ
 notification m h outcome = cond (eqb outcome 0 && (isForward (h .kind) && eqb (h .notify) m)) 1 0
 
 -- an accepted barrier message that makes its sender's group wait whole counts the group's size: a release
-abbrev pub releases : Setup → Head → List Bool → Bool
-releases s h waits = wholeOf s (groupOf (s .groups) (h .sender)) (set waits (h .sender) true)
-
 unfoldable pub releaseSize : Setup → Head → ℕ → List Bool → ℕ
 releaseSize s h outcome waits =
-    cond (eqb outcome 0 && (isBarrier (h .kind) && releases s h waits)) (groupSize s (groupOf (s .groups) (h .sender))) 0
+    cond (eqb outcome 0 && (isBarrier (h .kind) && wholeWith h s waits)) (groupSize s (ownGroup h s)) 0
 
 -- The first n events of a recording whose outcomes are outs, from the world w.
 module _ (rec : List ℕ) (s : Setup) (outs : List ℕ) (w : World) where
@@ -63,9 +60,9 @@ pub record Unchanged (s : Setup) (ev : List ℕ) (i outcome : ℕ) (w : World) :
 
 -- ---- an accepted forward
 
--- the first of the bytes that a forward writes, given the recipient's gateway: 4,096 x recipient + 32 x base + offset
+-- the first of the bytes that a forward writes, by the recipient's gateway as the event met it
 abbrev pub forwardPlace : Setup → Head → State → ℕ
-forwardPlace s h w = 4096 * h .target + windowStart s (gatewayAt (w .gateways) (h .target)) + h .place
+forwardPlace s h w = forwardStart h s (gatewayAt (w .gateways) (h .target))
 
 -- The bytes rs′ are rs with 2^code bytes of data from there on, and these are the recipient's.
 pub record Written (s : Setup) (ev : List ℕ) (w : State) (rs rs′ : List ℕ) : Type 0 where
@@ -89,9 +86,9 @@ pub record Sound (s : Setup) (w : State) : Type 0 where
   pub none-whole : (t : ℕ) → t < s .threads → (groupOf (s .groups) t ≡ noGroup → ⊥) → wholeOf s (groupOf (s .groups) t) (w .waits) ≡ false
   pub at-barrier : (b t : ℕ) → t < s .threads → waitsAt s w b t ≡ 1 → groupOf (s .groups) t ≡ b
 
--- after a release no member of its group waits
-abbrev pub Freed : Setup → ℕ → State → Type 0
-Freed s g w = (t : ℕ) → t < s .threads → groupOf (s .groups) t ≡ g → waitsOf (w .waits) t ≡ false
+-- no member of a group waits
+abbrev pub NoneWaits : Setup → ℕ → State → Type 0
+NoneWaits s g w = (t : ℕ) → t < s .threads → groupOf (s .groups) t ≡ g → waitsOf (w .waits) t ≡ false
 
 -- ---- a recording that is not refused
 
@@ -125,7 +122,19 @@ module _ (rec registers counts outcomes : List ℕ) where
     pub refused : (n : ℕ) → n < eventsOf rec → (outcomeAt n ≡ 0 → ⊥) → Unchanged (setupOf rec) (eventAt rec n) n (outcomeAt n) (met n)
     -- "A forward writes its 2^code bytes at 32 x base + offset of the recipient"
     pub forward : (n : ℕ) → n < eventsOf rec → outcomeAt n ≡ 0 → headAt n .kind ≡ 2 → Forwarded n
+    -- "Outcome bytes past the events stay"
+    pub past : (k : ℕ) → eventsOf rec ≤ k → getD (end .outcomes) k 0 ≡ getD outcomes k 0
     -- barriers, before and after every event, and after a release
     pub barriers : (n : ℕ) → Sound (setupOf rec) (met n .state)
-    pub release : (n : ℕ) → n < eventsOf rec → outcomeAt n ≡ 0 → headAt n .kind ≡ 4 → releases (setupOf rec) (headAt n) (met n .state .waits) ≡ true
-        → Freed (setupOf rec) (groupOf (setupOf rec .groups) (headAt n .sender)) (met (suc n) .state)
+    pub release : (n : ℕ) → n < eventsOf rec → outcomeAt n ≡ 0 → headAt n .kind ≡ 4 → wholeWith (headAt n) (setupOf rec) (met n .state .waits) ≡ true
+        → NoneWaits (setupOf rec) (ownGroup (headAt n) (setupOf rec)) (met (suc n) .state)
+
+-- ---- the claims
+
+-- every recording that no row refuses, over whatever is lent
+abbrev pub Claims : Type 0
+Claims = (rec registers counts outcomes : List ℕ) → refusalOf rec (length registers) (length counts) (length outcomes) ≡ 0 → Claimed rec registers counts outcomes
+
+-- The answer's number is that of the rows: 0 says that none refuses, and nothing else says so.
+abbrev pub Numbered : Type 0
+Numbered = (rec registers counts outcomes : List ℕ) → end rec registers counts outcomes .answer .number ≡ refusalOf rec (length registers) (length counts) (length outcomes)

@@ -3,13 +3,11 @@
 use mathlib.Core.Path.{_≡_}
 use mathlib.Core.List.{List, [], _∷_, _++_}
 use Prim.Native.Nat.{ℕ, _+_, _*_, _≤_, _<_}
-use lib.Dec.{eqb}
 use lib.ListN.{length, getD}
-use mathlib.Core.Bool.{not}
-use Rattle.laws.specs.Rows.{row, firstRow}
+use Rattle.laws.specs.Rows.{firstRow}
 use Rattle.event.specs.Head.{byteAt}
 use Rattle.event.specs.Codes.{countOf}
-use Rattle.gateway.specs.Recording.{threadsOf, eventsOf, setupOf, firstEvent, headerRows, refusalOf}
+use Rattle.gateway.specs.Recording.{eventsOf, setupOf, firstEvent, headerRows, lengthRow, refusalOf}
 use Rattle.gateway.specs.Claims.{end, met, headAt, outcomeAt, forwardPlace}
 
 -- "its registers are the lent registers' bytes from 4,096 x n on, at most 4,096": index k of the registers is thread n's
@@ -19,7 +17,7 @@ pub record Own (n k : ℕ) : Type 0 where
 
 -- "A recording refused with 11 to 14 has no events": rows 11 to 14 alone
 unfoldable pub formRefusalOf : List ℕ → ℕ
-formRefusalOf rec = firstRow (λ number place. number) 0 (headerRows rec ++ row 14 0 (not (eqb (length rec) (10 + threadsOf rec + 48 * eventsOf rec))) ∷ [])
+formRefusalOf rec = firstRow (λ number place. number) 0 (headerRows rec ++ lengthRow rec ∷ [])
 
 -- "A forward naming n is any event of kind 2 with n in byte 4": byte k of the recording is data (byte 16 to 47) of such an event
 pub record Data (n : ℕ) (rec : List ℕ) (k : ℕ) : Type 0 where

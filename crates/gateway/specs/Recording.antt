@@ -66,12 +66,15 @@ headerRows rec =
 unfoldable pub strayGroupOf : List ℕ → ℕ
 strayGroupOf rec = findFirst (threadsOf rec) (strayGroup rec)
 
+-- "14 length is not 10 + threads + 48 x events"
+abbrev pub lengthRow : List ℕ → Row
+lengthRow rec = row 14 0 (not (eqb (length rec) (10 + threadsOf rec + 48 * eventsOf rec)))
+
 -- Rows 14 to 16: the lent buffers count by their lengths.
 module _ (rec : List ℕ) (registers counts outcomes : ℕ) where
   abbrev pub lengthRows : List Row
   lengthRows =
-      -- "14 length is not 10 + threads + 48 x events"
-      row 14 0 (not (eqb (length rec) (10 + threadsOf rec + 48 * eventsOf rec)))
+      lengthRow rec
       -- "15 group byte"
       ∷ row 15 0 (ltb (strayGroupOf rec) (threadsOf rec))
       -- "16 lent registers not 4,096 bytes a thread, counts not two a thread (N0, then N2), or fewer outcome bytes than events"

@@ -5,12 +5,7 @@ ghost use lib.ListN.{length};
 ghost use Rattle.gateway.specs.Recording.{marked, threadsOf, strayGroupOf, lengthRefusalOf, refusalOf, groupsOf, setupOf};
 use event::Setup;
 use event::heads::half;
-
-fn index(x: u8) -> usize
-    ensures { λ r. ⌜ (r ≡ x) × (r < 256) ⌝ }
-{
-    x as usize
-}
+use event::heads::index;
 
 fn is_marked(recording: &[u8]) -> bool
     requires { ⌜ 10 ≤ length (now recording) ⌝ }

@@ -52,8 +52,8 @@ mul-if4 c = search needs
 shared-slice-read-if4 : tie.Need-shared-slice-read-if4
 shared-slice-read-if4 c = search needs
 
-pay-requires : tie.Need-pay-requires
-pay-requires c κs = search needs
+notify-group-requires : tie.Need-notify-group-requires
+notify-group-requires c κs = search needs
 
 mul-waiting : tie.Need-mul-waiting
 mul-waiting c = search needs
@@ -68,7 +68,7 @@ same-length-2 : tie.Need-same-length-2
 same-length-2 c = search needs
 
 returns-4 : tie.Need-returns-4
-returns-4 c = left-whole (c .before .before .before .before .before .before .before .before .before .before .before .before .before .before .before .before .before .before .args .h) (c .before .before .before .before .before .before .before .before .before .before .before .before .before .before .before .before .before .before .args .setup) (c .before .before .before .before .before .before .before .before .before .before .before .before .before .before .before .before .before .before .args .members .now) (c .before .before .before .before .before .before .before .before .before .before .before .before .before .before .before .before .before .before .args .waiting .now) (c .before .before .before .before .before .before .before .before .before .before .before .before .before .before .before .before .before .before .args .counts .now) (c .before .before .before .before .before .before .before .before .before .before .before .before .before .before .before .before .before .before .pre .0) (sym (c .before .before .before .before .before .before .before .before .before .before .before .before .before .before .is-malformed .ensures) ∙ c .before .before .before .before .before .before .before .before .before .before .before .before .before .if1 .left) (c .before .before .before .before .before .before .before .before .before .before .before .if2 .left) (sym (c .before .before .before .before .before .before .before .before .before .has-bit .ensures) ∙ c .before .before .before .before .before .before .before .before .if3 .left) (c .before .before .before .before .before .before .bit .ensures .0) (c .before .before .before .before .if4 .taken) (c .before .before .pay .ensures)
+returns-4 c = left-whole (c .before .before .before .before .before .before .before .before .before .before .before .before .before .before .before .before .before .before .args .h) (c .before .before .before .before .before .before .before .before .before .before .before .before .before .before .before .before .before .before .args .setup) (c .before .before .before .before .before .before .before .before .before .before .before .before .before .before .before .before .before .before .args .members .now) (c .before .before .before .before .before .before .before .before .before .before .before .before .before .before .before .before .before .before .args .waiting .now) (c .before .before .before .before .before .before .before .before .before .before .before .before .before .before .before .before .before .before .args .counts .now) (c .before .before .before .before .before .before .before .before .before .before .before .before .before .before .before .before .before .before .pre .0) (sym (c .before .before .before .before .before .before .before .before .before .before .before .before .before .before .is-malformed .ensures) ∙ c .before .before .before .before .before .before .before .before .before .before .before .before .before .if1 .left) (c .before .before .before .before .before .before .before .before .before .before .before .if2 .left) (sym (c .before .before .before .before .before .before .before .before .before .has-bit .ensures) ∙ c .before .before .before .before .before .before .before .before .if3 .left) (c .before .before .before .before .before .before .bit .ensures .0) (c .before .before .before .before .if4 .taken) (c .before .before .notify-group .ensures)
 
 mul-waiting-2 : tie.Need-mul-waiting-2
 mul-waiting-2 c = search needs
@@ -101,7 +101,7 @@ arrive-spec =
     add-arrived
     mul-if4
     shared-slice-read-if4
-    pay-requires
+    notify-group-requires
     mul-waiting
     slice-write-waiting
     same-length

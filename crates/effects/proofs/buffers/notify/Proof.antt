@@ -4,7 +4,7 @@ use mathlib.Core.List.{List}
 use Prim.Native.Nat.{ℕ, _+_, _*_}
 use lib.Dec.{eqb}
 use lib.ListN.{getD}
-use Rattle.effects.proofs.Groups.{others-kept, notified-twice}
+use Rattle.effects.proofs.CountLaws.{others-kept, notified-twice}
 use borrow.Author.Needs.{needs}
 use Rattle.effects.proofs.buffers.notify.Statement.{statement}
 use Rattle.effects.proofs.buffers.notify.Tie as tie

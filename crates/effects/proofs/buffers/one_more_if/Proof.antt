@@ -2,7 +2,7 @@ use native.Mathlib.Omega.{arith}
 use mathlib.Core.Path.{_∙_, ap}
 use Prim.Native.Nat.{ℕ, _+_}
 use lib.ListN.{set, getD}
-use Rattle.effects.proofs.Groups.{at-most-one, stored-if}
+use Rattle.effects.proofs.CountLaws.{at-most-one, stored-if}
 use borrow.Author.Needs.{needs}
 use Rattle.effects.proofs.buffers.one_more_if.Statement.{statement}
 use Rattle.effects.proofs.buffers.one_more_if.Tie as tie

@@ -49,7 +49,7 @@ padding-requires : tie.Need-padding-requires
 padding-requires c κs = search needs
 
 returns : tie.Need-returns
-returns c = made _ (c .before .before .before .before .before .before .before .before .before .before .before .before .before .wide .ensures .0) (c .before .before .before .before .before .before .before .before .before .before .before .wide2 .ensures .0) (c .before .before .before .before .before .before .before .before .before .index .ensures) (c .before .before .before .before .before .before .before .index2 .ensures) (c .before .before .before .before .before .index3 .ensures) (c .before .before .before .wide3 .ensures .0) (c .before .before .half .ensures .0) (c .before .half2 .ensures .0) (c .padding .ensures)
+returns c = made _ (c .before .before .before .before .before .before .before .before .before .before .before .before .before .wide .ensures .0) (c .before .before .before .before .before .before .before .before .before .before .before .wide2 .ensures .0) (c .before .before .before .before .before .before .before .before .before .index .ensures .0) (c .before .before .before .before .before .before .before .index2 .ensures .0) (c .before .before .before .before .before .index3 .ensures .0) (c .before .before .before .wide3 .ensures .0) (c .before .before .half .ensures .0) (c .before .half2 .ensures .0) (c .padding .ensures)
 
 pub head-spec : {M : Type 1} → statement M
 head-spec =

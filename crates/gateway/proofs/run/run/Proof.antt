@@ -11,12 +11,12 @@ use Rattle.gateway.specs.Steps.{Kept}
 use Rattle.gateway.proofs.Turns.{part-is, part-long}
 use Rattle.gateway.proofs.Bounds.{start-windows, met-windows, run-low}
 use Rattle.gateway.proofs.Arrivals.{none-yet, sixteen-masks, sixteen-members, masks-low}
-use Rattle.gateway.proofs.Loops.{Going, step-turn}
+use Rattle.gateway.proofs.Loops.{AtEvent, step-turn}
 use Rattle.gateway.proofs.run.run.Statement.{statement}
 use Rattle.gateway.proofs.run.run.Tie as tie
 
 abbrev Inv-loop : tie.InvT-loop
-Inv-loop recording setup events registers₀ counts₀ outcomes₀ first members gateways₀ bytes₀ waiting₀ i₀ registers counts outcomes gateways bytes waiting i = Going recording setup events (record { state = start; registers = registers₀; counts = counts₀; outcomes = outcomes₀ }) gateways bytes waiting registers counts outcomes i
+Inv-loop recording setup events registers₀ counts₀ outcomes₀ first members gateways₀ bytes₀ waiting₀ i₀ registers counts outcomes gateways bytes waiting i = AtEvent recording setup events (record { state = start; registers = registers₀; counts = counts₀; outcomes = outcomes₀ }) gateways bytes waiting registers counts outcomes i
 
 abbrev μ-loop : tie.MeasureT-loop
 μ-loop recording setup events registers₀ counts₀ outcomes₀ first members gateways₀ bytes₀ waiting₀ i₀ registers counts outcomes gateways bytes waiting i = events - i

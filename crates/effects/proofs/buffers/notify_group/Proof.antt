@@ -7,19 +7,19 @@ use Prim.Native.Nat.{ℕ, _≤_, _-_, _*_}
 use lib.Dec.{eqb}
 use lib.ListN.{length, getD}
 use Rattle.event.specs.Groups.{groupOf}
-use Rattle.effects.specs.Effects.{paid, oneMore}
-use Rattle.effects.proofs.Groups.{paid-long, paid-turn, paid-later}
-use Rattle.effects.proofs.buffers.pay.Statement.{statement}
-use Rattle.effects.proofs.buffers.pay.Tie as tie
+use Rattle.effects.specs.Effects.{groupNotified, oneMore}
+use Rattle.effects.proofs.CountLaws.{groupNotified-long, groupNotified-turn, groupNotified-later}
+use Rattle.effects.proofs.buffers.notify_group.Statement.{statement}
+use Rattle.effects.proofs.buffers.notify_group.Tie as tie
 
 abbrev Inv-loop : tie.InvT-loop
-Inv-loop group counts₀ threads groups t₀ counts t = (t ≤ threads) × (counts ≡ paid t groups group counts₀)
+Inv-loop group counts₀ threads groups t₀ counts t = (t ≤ threads) × (counts ≡ groupNotified t groups group counts₀)
 
 abbrev μ-loop : tie.MeasureT-loop
 μ-loop group counts₀ threads groups t₀ counts t = threads - t
 
 loop-holds : tie.Need-loop-holds Inv-loop μ-loop
-unfolding paid
+unfolding groupNotified
 loop-holds c = (omega arith, refl)
 
 mul-one-more-if : tie.Need-mul-one-more-if Inv-loop μ-loop
@@ -31,8 +31,8 @@ array-read-one-more-if c = omega arith
 one-more-if-requires : tie.Need-one-more-if-requires Inv-loop μ-loop
 one-more-if-requires c κs = let a = c .before .before .before .before .before .args in
     let l = c .before .before .loop in
-    let n : length (l .counts) ≡ length (a .counts .now) = ap length (l .inv .1) ∙ paid-long (a .setup .groups) (a .group) (a .counts .now) (l .t) in
-    let e : getD (l .counts) (2 * l .t) 0 ≡ getD (a .counts .now) (2 * l .t) 0 = ap (λ (x : List ℕ). getD x (2 * l .t) 0) (l .inv .1) ∙ paid-later (a .setup .groups) (a .group) (a .counts .now) (l .t) (2 * l .t) (omega arith) in
+    let n : length (l .counts) ≡ length (a .counts .now) = ap length (l .inv .1) ∙ groupNotified-long (a .setup .groups) (a .group) (a .counts .now) (l .t) in
+    let e : getD (l .counts) (2 * l .t) 0 ≡ getD (a .counts .now) (2 * l .t) 0 = ap (λ (x : List ℕ). getD x (2 * l .t) 0) (l .inv .1) ∙ groupNotified-later (a .setup .groups) (a .group) (a .counts .now) (l .t) (2 * l .t) (omega arith) in
     (omega arith, omega (arith, c .before .before .before .before .before .pre .2 (2 * l .t)))
 
 add-t : tie.Need-add-t Inv-loop μ-loop
@@ -47,17 +47,17 @@ loop-again c = let a = c .before .before .before .before .before .before .before
       omega arith,
       c .before .before .one-more-if .ensures
           ∙ ap (λ (x : List ℕ). cond (eqb (groupOf (a .setup .groups) (l .t)) (a .group)) (oneMore x (2 * l .t)) x) (l .inv .1)
-          ∙ paid-turn (a .setup .groups) (a .group) (a .counts .now) (l .t),
+          ∙ groupNotified-turn (a .setup .groups) (a .group) (a .counts .now) (l .t),
     )
 
 same-length : tie.Need-same-length Inv-loop μ-loop
-same-length c = let a = c .before .before .before .before .args in ap length (c .before .loop .inv .1) ∙ paid-long (a .setup .groups) (a .group) (a .counts .now) (c .before .loop .t)
+same-length c = let a = c .before .before .before .before .args in ap length (c .before .loop .inv .1) ∙ groupNotified-long (a .setup .groups) (a .group) (a .counts .now) (c .before .loop .t)
 
 returns : tie.Need-returns Inv-loop μ-loop
-returns c = let a = c .before .before .before .before .args in c .before .loop .inv .1 ∙ ap (λ (n : ℕ). paid n (a .setup .groups) (a .group) (a .counts .now)) (le-antisymm (c .before .loop .inv .0) (c .loop-test .left))
+returns c = let a = c .before .before .before .before .args in c .before .loop .inv .1 ∙ ap (λ (n : ℕ). groupNotified n (a .setup .groups) (a .group) (a .counts .now)) (le-antisymm (c .before .loop .inv .0) (c .loop-test .left))
 
-pub pay-spec : {M : Type 1} → statement M
-pay-spec =
+pub notify-group-spec : {M : Type 1} → statement M
+notify-group-spec =
     tie.close
     (tie.spec
     Inv-loop

@@ -11,7 +11,7 @@ use lib.Seq.{getD-set-other, set-getD}
 use borrow.Author.Tests.{ne-eqb, eqb-true}
 use Rattle.laws.proofs.Choices.{by-test}
 use Rattle.event.specs.Groups.{groupOf}
-use Rattle.effects.specs.Effects.{oneMore, notified, paid}
+use Rattle.effects.specs.Effects.{oneMore, notified, groupNotified}
 
 -- ---- one more at a place, or none
 
@@ -34,21 +34,21 @@ others-kept false cs k j h = refl
 -- ---- a release
 
 module _ (groups : List ℕ) (g : ℕ) (cs : List ℕ) where
-  pub paid-long : (n : ℕ) → length (paid n groups g cs) ≡ length cs
-  unfolding paid
-  paid-long zero = refl
-  paid-long (suc n) = as-long (eqb (groupOf groups n) g) (paid n groups g cs) (2 * n) ∙ paid-long n
+  pub groupNotified-long : (n : ℕ) → length (groupNotified n groups g cs) ≡ length cs
+  unfolding groupNotified
+  groupNotified-long zero = refl
+  groupNotified-long (suc n) = as-long (eqb (groupOf groups n) g) (groupNotified n groups g cs) (2 * n) ∙ groupNotified-long n
 
   -- a turn of the loop that pays
-  pub paid-turn : (t : ℕ) → cond (eqb (groupOf groups t) g) (oneMore (paid t groups g cs) (2 * t)) (paid t groups g cs) ≡ paid (t + 1) groups g cs
-  unfolding paid
-  paid-turn t = ap (λ (n : ℕ). paid n groups g cs) (sym (add-one t))
+  pub groupNotified-turn : (t : ℕ) → cond (eqb (groupOf groups t) g) (oneMore (groupNotified t groups g cs) (2 * t)) (groupNotified t groups g cs) ≡ groupNotified (t + 1) groups g cs
+  unfolding groupNotified
+  groupNotified-turn t = ap (λ (n : ℕ). groupNotified n groups g cs) (sym (add-one t))
 
   -- who has not had its turn has what it had
-  pub paid-later : (n k : ℕ) → 2 * n ≤ k → getD (paid n groups g cs) k 0 ≡ getD cs k 0
-  unfolding paid
-  paid-later zero k h = refl
-  paid-later (suc n) k h = others-kept (eqb (groupOf groups n) g) (paid n groups g cs) (2 * n) k (λ q. omega arith) ∙ paid-later n k (omega arith)
+  pub groupNotified-later : (n k : ℕ) → 2 * n ≤ k → getD (groupNotified n groups g cs) k 0 ≡ getD cs k 0
+  unfolding groupNotified
+  groupNotified-later zero k h = refl
+  groupNotified-later (suc n) k h = others-kept (eqb (groupOf groups n) g) (groupNotified n groups g cs) (2 * n) k (λ q. omega arith) ∙ groupNotified-later n k (omega arith)
 
 -- ---- a forward's notification
 
