@@ -1,5 +1,6 @@
 -- The mask of each group's members, a thread at a time. Assumes nothing.
 use mathlib.Core.Path.{_≡_, refl, sym, ap, _∙_}
+use mathlib.Core.Bool.{Bool}
 use mathlib.Core.List.{List}
 use Prim.Native.Nat.{ℕ, zero, suc, _+_, _*_, _^_, _≤_, _<_}
 use native.Mathlib.Nat.{pow-suc}
@@ -11,8 +12,17 @@ use borrow.Author.Tests.{eq-eqb, ne-eqb}
 use Rattle.laws.specs.Filled.{filled}
 use Rattle.laws.proofs.Choices.{by-cond}
 use Rattle.laws.proofs.Filled.{filled-at, filled-same, filled-set}
-use Rattle.event.specs.Groups.{groupOf}
+use Rattle.event.specs.Groups.{groupOf, bitsWhere}
 use Rattle.effects.specs.Barriers.{memberMask, masks}
+
+-- bits of the first n threads
+pub bits-lt : (test : ℕ → Bool) (n : ℕ) → bitsWhere test n < 2 ^ n
+unfolding bitsWhere
+bits-lt test zero = omega arith
+bits-lt test (suc n) =
+    let ih = bits-lt test n in
+    let e : 2 ^ suc n ≡ 2 ^ n * 2 = pow-suc 2 n in
+    by-cond (λ (x : ℕ). x < 2 ^ suc n) (test n) _ _ (λ _. omega arith) (λ _. omega arith)
 
 -- an entry of sixteen masks, and sixteen that differ in one
 pub mask-at : (f : ℕ → ℕ) (b : ℕ) → b < 16 → getD (masks f) b 0 ≡ f b
@@ -29,29 +39,21 @@ masks-set f f′ b h e = filled-set f f′ (replicate 16 0) 16 b h e
 
 module _ (groups : List ℕ) where
   pub no-members : replicate 16 0 ≡ masks (memberMask 0 groups)
-  unfolding masks memberMask filled
+  unfolding masks bitsWhere filled
   no-members = refl
-
-  mask-lt : (n b : ℕ) → memberMask n groups b < 2 ^ n
-  unfolding memberMask
-  mask-lt zero b = omega arith
-  mask-lt (suc n) b =
-      let ih = mask-lt n b in
-      let e : 2 ^ suc n ≡ 2 ^ n * 2 = pow-suc 2 n in
-      by-cond (λ (x : ℕ). x < 2 ^ suc n) (eqb (groupOf groups n) b) _ _ (λ _. omega arith) (λ _. omega arith)
 
   -- a thread of group b, and one of another
   mask-in : (t : ℕ) → memberMask t groups (groupOf groups t) + 2 ^ t ≡ memberMask (t + 1) groups (groupOf groups t)
-  unfolding memberMask
+  unfolding bitsWhere
   mask-in t = rw (add-one t) (simp (eq-eqb (groupOf groups t) _ refl))
 
   mask-out : (t b : ℕ) → (groupOf groups t ≡ b → ⊥) → memberMask t groups b ≡ memberMask (t + 1) groups b
-  unfolding memberMask
+  unfolding bitsWhere
   mask-out t b n = rw (add-one t) (simp (ne-eqb _ _ n))
 
   module _ (t : ℕ) {ms : List ℕ} (e : ms ≡ masks (memberMask t groups)) where
     pub members-low : groupOf groups t < 16 → getD ms (groupOf groups t) 0 < 2 ^ t
-    members-low h = rw (e, mask-at (memberMask t groups) (groupOf groups t) h) (mask-lt t (groupOf groups t))
+    members-low h = rw (e, mask-at (memberMask t groups) (groupOf groups t) h) (bits-lt _ t)
 
     pub members-in : groupOf groups t < 16 → {x : ℕ} → x ≡ 2 ^ t
         → set ms (groupOf groups t) (getD ms (groupOf groups t) 0 + x) ≡ masks (memberMask (t + 1) groups)

@@ -12,13 +12,12 @@ use Rattle.event.specs.declared.Head.{Head}
 use Rattle.event.specs.declared.Setup.{Setup}
 use Rattle.event.specs.Decision.{Decision, Refused, Open, Close, Forward, Wait, Release, Update}
 use Rattle.event.specs.Codes.{closed}
-use Rattle.event.specs.Groups.{noGroup, groupOf, ownGroup}
+use Rattle.event.specs.Groups.{noGroup, groupOf, bitsWhere, ownGroup}
 use Rattle.event.specs.Outcomes.{isBarrier, malformed, when, refused, decisionOf}
 
 -- the members of group b among the first n threads
-unfoldable pub memberMask : ℕ → List ℕ → ℕ → ℕ
-memberMask zero groups b = 0
-memberMask (suc n) groups b = cond (eqb (groupOf groups n) b) (memberMask n groups b + 2 ^ n) (memberMask n groups b)
+abbrev pub memberMask : ℕ → List ℕ → ℕ → ℕ
+memberMask n groups b = bitsWhere (λ t. eqb (groupOf groups t) b) n
 
 -- a mask for each of the sixteen barriers
 unfoldable pub masks : (ℕ → ℕ) → List ℕ

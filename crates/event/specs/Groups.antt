@@ -1,6 +1,6 @@
 -- Barrier groups: document 01, "one barrier group byte per thread (0 to 15, or 255 for none)". A thread has one group, so who waits is said
 -- by thread: it waits at its group's barrier, whose number is the group byte.
-use Prim.Native.Nat.{ℕ, zero, suc, _+_}
+use Prim.Native.Nat.{ℕ, zero, suc, _+_, _^_}
 use mathlib.Core.Bool.{Bool, true, false, cond, _&&_}
 use mathlib.Core.List.{List}
 use lib.Dec.{eqb}
@@ -17,6 +17,11 @@ groupOf groups t = getD groups t 0
 
 abbrev pub waitsOf : List Bool → ℕ → Bool
 waitsOf waits t = getD waits t false
+
+-- bit t set for each thread t, of the first n, that passes a test
+unfoldable pub bitsWhere : (ℕ → Bool) → ℕ → ℕ
+bitsWhere test zero = 0
+bitsWhere test (suc n) = cond (test n) (bitsWhere test n + 2 ^ n) (bitsWhere test n)
 
 -- does every member of group g among the first n threads wait?
 unfoldable pub allWait : ℕ → List ℕ → ℕ → List Bool → Bool

@@ -1,6 +1,6 @@
 -- A barrier message by the masks that the code keeps: the decision is the rules', and the masks after it are those of who waits then. Assumes nothing.
 use mathlib.Core.Path.{_≡_, refl, sym, ap, subst, _∙_}
-use mathlib.Core.Bool.{Bool, true, false, cond}
+use mathlib.Core.Bool.{Bool, true, false, cond, _&&_}
 use mathlib.Core.List.{List, []}
 use Prim.Native.Nat.{ℕ, _+_, _/_, _%_, _^_, _≤_, _<_}
 use native.Mathlib.Nat.{mod-eq-of-lt}
@@ -26,11 +26,11 @@ use Rattle.event.proofs.ByKind.{other-same}
 use Rattle.event.proofs.Sources.{Source, decision-source}
 use Rattle.effects.specs.Effects.{released, waitsAfter}
 use Rattle.effects.specs.Barriers.{memberMask, masks, memberMasks, slotOf, arrivalOf, messageOf, waitingAfter}
-use Rattle.effects.proofs.Members.{mask-at, masks-same, masks-set}
+use Rattle.effects.proofs.Members.{bits-lt, mask-at, masks-same, masks-set}
 use Rattle.effects.proofs.Arrivals.{as-arrival, as-other}
 use Rattle.gateway.specs.Replay.{State, waitingOf, barrierOf, emptyBarrier, barriersOf}
 use Rattle.gateway.specs.Steps.{waitingIn, barriersFrom}
-use Rattle.gateway.proofs.Masks.{waiting-lt, bit-tells, none-waiting, whole-mask, waiting-same, waiting-set}
+use Rattle.gateway.proofs.Masks.{bit-tells, none-waiting, whole-mask, waiting-same, waiting-set}
 use Rattle.gateway.proofs.Barriers.{released-at, released-other, none-waits}
 
 -- the masks before the first event, their number, and how large one can be
@@ -53,7 +53,7 @@ module _ (s : Setup) where
   masks-low few ws b =
       by-test (ltb b 16)
       (λ q. rw (mask-at (λ c. waitingOf (s .threads) (s .groups) c ws) b (ltb-true b 16 q))
-      (omega (arith, waiting-lt (s .groups) b ws (s .threads), pow-mono {i = s .threads} {j = 16} few)))
+      (omega (arith, bits-lt (λ t. eqb (groupOf (s .groups) t) b && waitsOf ws t) (s .threads), pow-mono {i = s .threads} {j = 16} few)))
       (λ q. rw (List·getD-eq-default (waitingIn s ws) 0 {n = b} (omega (arith, ltb-false b 16 q, sixteen-masks ws))) (omega arith))
 
 -- the barriers of the answer are made of bytes and masks

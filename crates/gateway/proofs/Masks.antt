@@ -13,19 +13,12 @@ use lib.Pow.{pow-add, pow-pos}
 use lib.Seq.{getD-set-same, getD-set-other}
 use borrow.Author.Tests.{eq-eqb, ne-eqb, eqb-true, eqb-false}
 use Rattle.laws.proofs.Choices.{by-cond, two-cond, by-test}
-use Rattle.event.specs.Groups.{groupOf, waitsOf, allWait}
+use Rattle.event.specs.Groups.{groupOf, waitsOf, bitsWhere, allWait}
 use Rattle.effects.specs.Barriers.{memberMask}
+use Rattle.effects.proofs.Members.{bits-lt}
 use Rattle.gateway.specs.Replay.{waitingOf}
 
 module _ (groups : List ℕ) (b : ℕ) (waits : List Bool) where
-  pub waiting-lt : (n : ℕ) → waitingOf n groups b waits < 2 ^ n
-  unfolding waitingOf
-  waiting-lt zero = omega arith
-  waiting-lt (suc n) =
-      let ih = waiting-lt n in
-      let e : 2 ^ suc n ≡ 2 ^ n * 2 = pow-suc 2 n in
-      by-cond (λ (x : ℕ). x < 2 ^ suc n) (eqb (groupOf groups n) b && waitsOf waits n) _ _ (λ _. omega arith) (λ _. omega arith)
-
   -- 1 where thread t is of the group and waits
   unfoldable pub bitOf : ℕ → ℕ
   bitOf t = cond (eqb (groupOf groups t) b && waitsOf waits t) 1 0
@@ -35,7 +28,7 @@ module _ (groups : List ℕ) (b : ℕ) (waits : List Bool) where
   bit-small t = by-cond (λ (x : ℕ). x < 2) (eqb (groupOf groups t) b && waitsOf waits t) _ _ (λ _. omega arith) (λ _. omega arith)
 
   top : (n : ℕ) → waitingOf (suc n) groups b waits ≡ bitOf n * 2 ^ n + waitingOf n groups b waits
-  unfolding waitingOf bitOf
+  unfolding bitsWhere bitOf
   top n = two-cond (λ (x y : ℕ). x ≡ y * 2 ^ n + waitingOf n groups b waits) (eqb (groupOf groups n) b && waitsOf waits n) _ _ _ _ (λ _. omega arith) (λ _. omega arith)
 
   even : (x y : ℕ) → (x + y * 2) % 2 ≡ x % 2
@@ -45,7 +38,7 @@ module _ (groups : List ℕ) (b : ℕ) (waits : List Bool) where
   mask-bit zero t h = absurd (omega arith)
   mask-bit (suc n) t h =
       by-test (eqb t n)
-      (λ q. let d : (bitOf n * 2 ^ n + waitingOf n groups b waits) / 2 ^ n ≡ bitOf n = digits-div (bitOf n) (waiting-lt n) in
+      (λ q. let d : (bitOf n * 2 ^ n + waitingOf n groups b waits) / 2 ^ n ≡ bitOf n = digits-div (bitOf n) (bits-lt _ n) in
       rw (eqb-true t n q, top n, d) (omega (arith, bit-small n)))
       (λ q. let u = eqb-false t n q in
       let k : n ≡ (n - t - 1) + 1 + t = omega arith in
@@ -65,7 +58,7 @@ module _ (groups : List ℕ) (b : ℕ) (waits : List Bool) where
 
   -- nobody's mask is 0
   pub none-waiting : (n : ℕ) → ((t : ℕ) → t < n → groupOf groups t ≡ b → waitsOf waits t ≡ false) → waitingOf n groups b waits ≡ 0
-  unfolding waitingOf
+  unfolding bitsWhere
   none-waiting zero e = refl
   none-waiting (suc n) e =
       let ih = none-waiting n (λ t h. e t (omega arith)) in
@@ -81,20 +74,20 @@ eqb-add x y k =
 module _ (groups : List ℕ) (b : ℕ) where
   -- every member waits where the mask is the members'
   pub whole-mask : (ws : List Bool) (n : ℕ) → allWait n groups b ws ≡ eqb (waitingOf n groups b ws) (memberMask n groups b)
-  unfolding allWait waitingOf memberMask
+  unfolding allWait bitsWhere
   whole-mask ws zero = refl
   whole-mask ws (suc n) =
       let ih = whole-mask ws n in
       by-test (eqb (groupOf groups n) b)
       (λ q. by-test (waitsOf ws n)
       (λ w. simp (q, w) (ih ∙ sym (eqb-add (waitingOf n groups b ws) (memberMask n groups b) (2 ^ n))))
-      (λ w. simp (q, w) (sym (ne-eqb (waitingOf n groups b ws) (memberMask n groups b + 2 ^ n) (λ e. omega (arith, waiting-lt groups b ws n))))))
+      (λ w. simp (q, w) (sym (ne-eqb (waitingOf n groups b ws) (memberMask n groups b + 2 ^ n) (λ e. omega (arith, bits-lt (λ t. eqb (groupOf groups t) b && waitsOf ws t) n))))))
       (λ q. simp q ih)
 
   -- masks are one where the members wait alike
   pub waiting-same : (ws ws′ : List Bool) (n : ℕ) → ((t : ℕ) → t < n → groupOf groups t ≡ b → waitsOf ws t ≡ waitsOf ws′ t)
       → waitingOf n groups b ws ≡ waitingOf n groups b ws′
-  unfolding waitingOf
+  unfolding bitsWhere
   waiting-same ws ws′ zero e = refl
   waiting-same ws ws′ (suc n) e =
       let ih = waiting-same ws ws′ n (λ t h. e t (omega arith)) in
@@ -105,7 +98,7 @@ module _ (groups : List ℕ) (b : ℕ) where
   -- a member that comes is one bit more
   pub waiting-set : (ws : List Bool) (t : ℕ) → groupOf groups t ≡ b → waitsOf ws t ≡ false → t < length ws → (n : ℕ) → t < n
       → waitingOf n groups b (set ws t true) ≡ waitingOf n groups b ws + 2 ^ t
-  unfolding waitingOf
+  unfolding bitsWhere
   waiting-set ws t e f l zero h = absurd (omega arith)
   waiting-set ws t e f l (suc n) h =
       by-test (eqb t n)

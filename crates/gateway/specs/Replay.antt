@@ -11,7 +11,7 @@ use Rattle.event.specs.declared.Setup.{Setup}
 use Rattle.event.specs.Decision.{Decision}
 use Rattle.event.specs.Head.{headOf}
 use Rattle.event.specs.Codes.{closed, gatewayAt}
-use Rattle.event.specs.Groups.{groupOf, waitsOf}
+use Rattle.event.specs.Groups.{groupOf, waitsOf, bitsWhere}
 use Rattle.event.specs.Outcomes.{decisionOf, outcomeOf}
 use Rattle.event.specs.declared.Gateway.{Gateway}
 use Rattle.gateway.specs.declared.Barrier.{Barrier}
@@ -75,10 +75,8 @@ abbrev pub begun : List ℕ → List ℕ → List ℕ → World
 begun registers counts outcomes = record { state = start; registers = registers; counts = replicate (length counts) 0; outcomes = outcomes }
 
 -- Who waits at barrier b, among the first n threads: bit t is set where thread t is of that group and waits.
-unfoldable pub waitingOf : ℕ → List ℕ → ℕ → List Bool → ℕ
-waitingOf zero groups b waits = 0
-waitingOf (suc n) groups b waits =
-    cond (eqb (groupOf groups n) b && waitsOf waits n) (waitingOf n groups b waits + 2 ^ n) (waitingOf n groups b waits)
+abbrev pub waitingOf : ℕ → List ℕ → ℕ → List Bool → ℕ
+waitingOf n groups b waits = bitsWhere (λ t. eqb (groupOf groups t) b && waitsOf waits t) n
 
 abbrev pub barrierOf : Setup → State → ℕ → Barrier
 barrierOf s w b = record { byte = getD (w .bytes) b 0; waiting = waitingOf (s .threads) (s .groups) b (w .waits) }

@@ -19,16 +19,16 @@ use Rattle.scoreboard.specs.Run.{waitsFor, lowestWaited, lowestDelta, lowestWai
 use Rattle.scoreboard.specs.Answers.{ordered, statesOf}
 use Rattle.scoreboard.specs.Answers as scoreboardAnswers
 use Rattle.event.specs.Head as eventHead
-use Rattle.event.specs.Groups.{allWait}
+use Rattle.event.specs.Groups.{bitsWhere, allWait}
 use Rattle.event.specs.Outcomes.{countedAck, endMalformed, forwardMalformed, openMalformed, ackMalformed, malformed, decidedOf, decisionOf, outcomeOf}
 use Rattle.gateway.specs.Recording.{groupsOf, setupOf, strayGroupOf, refusalOf}
 use Rattle.effects.specs.Effects.{gatewaysAfter, bytesAfter, released, waitsAfter, notified, groupNotified, countsAfter, forwarded, withAck}
-use Rattle.gateway.specs.Replay.{stepOf, runOf, waitingOf, barriersOf, runWhole, replayOf}
+use Rattle.gateway.specs.Replay.{stepOf, runOf, barriersOf, runWhole, replayOf}
 use Rattle.proved_examples.specs.Cases.{Each, table}
 
 -- each case: one number, one answer, an answer and its states, or an answer with outcomes, counts and registers
 pub all-hold : Each table
-unfolding firstFrom findFirst field anySet filled kindOf lengthAllowed totalOf ownDwords commandKinds.headOf marks standsSince countLoaded curbeInForce vfeInForce stateOf stateAfter judgeOf read readingOf decided batchAnswers.answerOf deltaOf deltaDword deltaX deltaY usesScoreboard typeOf setInBoth inPlayOf reaches meetsAt objectWith objectsOf waitsFor lowestWaited lowestDelta lowestWaiting verdictOf after runFrom begun ordered statesOf scoreboardAnswers.answerOf eventHead.headOf allWait countedAck endMalformed forwardMalformed openMalformed ackMalformed malformed decidedOf decisionOf outcomeOf groupsOf setupOf strayGroupOf refusalOf gatewaysAfter bytesAfter released waitsAfter notified groupNotified countsAfter forwarded withAck stepOf runOf waitingOf barriersOf runWhole replayOf
+unfolding firstFrom findFirst field anySet filled kindOf lengthAllowed totalOf ownDwords commandKinds.headOf marks standsSince countLoaded curbeInForce vfeInForce stateOf stateAfter judgeOf read readingOf decided batchAnswers.answerOf deltaOf deltaDword deltaX deltaY usesScoreboard typeOf setInBoth inPlayOf reaches meetsAt objectWith objectsOf waitsFor lowestWaited lowestDelta lowestWaiting verdictOf after runFrom begun ordered statesOf scoreboardAnswers.answerOf eventHead.headOf allWait countedAck endMalformed forwardMalformed openMalformed ackMalformed malformed decidedOf decisionOf outcomeOf groupsOf setupOf strayGroupOf refusalOf gatewaysAfter bytesAfter released waitsAfter notified groupNotified countsAfter forwarded withAck stepOf runOf bitsWhere barriersOf runWhole replayOf
 all-hold = (
   refl,
   (

@@ -16,7 +16,7 @@ abbrev μ-loop : tie.MeasureT-loop
 μ-loop threads groups members₀ t₀ members t = threads - t
 
 loop-holds : tie.Need-loop-holds Inv-loop μ-loop
-loop-holds c = (omega arith, no-members _)
+loop-holds c = (omega arith, no-members (c .before .args .setup .groups))
 
 array-read-group : tie.Need-array-read-group Inv-loop μ-loop
 array-read-group c = omega arith

@@ -75,9 +75,9 @@ step-requires c κs = let a = c .before .before .before .before .before .before 
           record {
             few = p .few;
             all = ap length (c .before .before .before .before .before .before .before .before .before .members .ensures) ∙ sixteen-members (a .setup);
-            kept = ap length e ∙ sixteen-masks (a .setup) _;
+            kept = ap length e ∙ sixteen-masks (a .setup) (runOf (a .recording .now) (a .setup) (l .i) w₀ .state .waits);
             sixteen = l .inv .all-bytes;
-            masked = λ b. rw e (masks-low (a .setup) (p .few) _ b);
+            masked = λ b. rw e (masks-low (a .setup) (p .few) (runOf (a .recording .now) (a .setup) (l .i) w₀ .state .waits) b);
             own = omega arith;
             two = omega arith;
             low = run-low (a .recording .now) (a .setup) w₀ (p .clear) (l .i) (l .counts) (l .inv .kept .own-counts) (omega arith);
