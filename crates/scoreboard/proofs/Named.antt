@@ -1,6 +1,7 @@
 -- What an event's verdict says: whom 24 and 25 name, and that an event that passes is in order. Assumes nothing.
 use mathlib.Core.Path.{_≡_, refl, sym, subst, subst⁻¹, _∙_}
 use mathlib.Core.Bool.{Bool, true, false, cond, _&&_}
+use mathlib.Core.Logic.{_⊎_, inl, inr}
 use mathlib.Core.List.{List, [], _∷_, List·Memᴰ}
 use Prim.Native.Nat.{ℕ, zero, suc, _/_, _%_, _<_, _≤_}
 use native.Mathlib.Omega.{arith}
@@ -12,8 +13,9 @@ use Rattle.scoreboard.specs.Objects.{Delta, Object, meets}
 use Rattle.laws.specs.Find.{findFirst}
 use Rattle.scoreboard.specs.Run.{objectAt, stateAt, waiting, starts, finishes, waitsFor, lowestWaited, lowestDelta, lowestWaiting, Row, row, rows, firstRow, verdict, verdictOf, after}
 use Rattle.scoreboard.specs.Waits.{Waits, Stalls, Blocks}
+use Rattle.laws.proofs.Choices.{and-left, and-right}
 use Rattle.laws.proofs.Find.{find-at, find-before}
-use Rattle.scoreboard.proofs.Waits.{right, met, led, lowest-le, lowest-one, waits, waited}
+use Rattle.scoreboard.proofs.Waits.{met, led, lowest-le, lowest-one, waits, waited}
 
 odd : (e : ℕ) → (e % 2 ≡ 0 → ⊥) → e % 2 ≡ 1
 odd e o = omega arith
@@ -45,6 +47,14 @@ is-25 false false false true f j i n h = absurd (omega arith)
 is-25 false false false false true j i n h = (refl, refl)
 is-25 false false false false false j i n h = absurd (omega arith)
 
+is-over : (a b c d f : Bool) (j i n : ℕ) → 23 < decided a b c d f j i n .number → (d ≡ true) ⊎ (f ≡ true)
+is-over true b c d f j i n h = absurd (omega arith)
+is-over false true c d f j i n h = absurd (omega arith)
+is-over false false true d f j i n h = absurd (omega arith)
+is-over false false false true f j i n h = inl refl
+is-over false false false false true j i n h = inr refl
+is-over false false false false false j i n h = absurd (omega arith)
+
 is-0 : (a b c d f : Bool) (j i n : ℕ) → decided a b c d f j i n .number ≡ 0 → (b ≡ false) × (c ≡ false) × (f ≡ false)
 is-0 true b c d f j i n h = absurd (omega arith)
 is-0 false true c d f j i n h = absurd (omega arith)
@@ -53,8 +63,8 @@ is-0 false false false true f j i n h = absurd (omega arith)
 is-0 false false false false true j i n h = absurd (omega arith)
 is-0 false false false false false j i n h = (refl, refl, refl)
 
-four : (p q r s : Bool) → p && q && r && s ≡ true → (q ≡ true) × (r ≡ true) × (s ≡ true)
-four true true true true h = (refl, refl, refl)
+four : (p q r s : Bool) → p && q && r && s ≡ true → (p ≡ true) × (q ≡ true) × (r ≡ true) × (s ≡ true)
+four true true true true h = (refl, refl, refl, refl)
 four true true true false h = absurd (subst T (sym h) tt)
 four true true false s h = absurd (subst T (sym h) tt)
 four true false r s h = absurd (subst T (sym h) tt)
@@ -84,11 +94,11 @@ module _ (objects : List Object) (states : List ℕ) (e : ℕ) where
   stalls h =
       let g = is-24 (nth 0 .holds) (nth 1 .holds) (nth 2 .holds) (nth 3 .holds) (nth 4 .holds) (nth 3 .object) (nth 4 .object) (nth 4 .delta) h in
       let q = four (starts e) _ _ _ (g .0) in
-      let l = ltb-true _ k (q .2) in
+      let l = ltb-true _ k (q .3) in
       subst⁻¹ (λ (j : ℕ). Stalls objects states k j) (g .1)
       (record {
-        uses = q .0;
-        type = eqb-true _ _ (q .1);
+        uses = q .1;
+        type = eqb-true _ _ (q .2);
         earlier = l;
         waiting = eqb-true _ _ (find-at _ k l);
         lowest = λ i b z. eqb-false _ _ (find-before _ k i b) z;
@@ -102,7 +112,7 @@ module _ (objects : List Object) (states : List ℕ) (e : ℕ) where
       let j = findFirst k w in
       let ds = objectAt objects k .inPlay in
       let f = meets (objectAt objects k) (objectAt objects j) in
-      let l = ltb-true j k (right (starts e) _ (g .0)) in
+      let l = ltb-true j k (and-right (starts e) _ (g .0)) in
       let u : Waits objects states k j = waits objects states k j (find-at w k l) in
       let m = led (objectAt objects k) (objectAt objects j) (u .by) (u .leads) in
       let b = small (u .by) (u .leads .inPlay) in
@@ -116,6 +126,16 @@ module _ (objects : List Object) (states : List ℕ) (e : ℕ) where
         number = o .number;
         lowestDelta = λ d q. lowest-le f ds d (q .inPlay) (led (objectAt objects k) (objectAt objects j) d q);
       })
+
+  -- 24 and 25 are of a start
+  pub names-start : 23 < v .number → starts e ≡ true
+  unfolding verdictOf
+  names-start h =
+      go (is-over (nth 0 .holds) (nth 1 .holds) (nth 2 .holds) (nth 3 .holds) (nth 4 .holds) (nth 3 .object) (nth 4 .object) (nth 4 .delta) h)
+    where
+      go : (nth 3 .holds ≡ true) ⊎ (nth 4 .holds ≡ true) → starts e ≡ true
+      go (inl p) = four (starts e) _ _ _ p .0
+      go (inr p) = and-left (starts e) _ p
 
   -- a start that passes waits for nobody
   pub starts-clear : v .number ≡ 0 → starts e ≡ true → (j : ℕ) → Waits objects states k j → ⊥
