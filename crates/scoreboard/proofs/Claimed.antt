@@ -21,9 +21,9 @@ use Rattle.scoreboard.specs.Waits.{Stalls, Blocks}
 use Rattle.scoreboard.specs.Answers.{objectsIn, ordered, bytesOrdered, refusedAnswer, ranAnswer, answerOf, recordsOf, statesOf, bytesAnswerOf, bytesRecordsOf, bytesStatesOf}
 use Rattle.scoreboard.specs.Claims.{Claims, Claimed, BytesClaimed}
 use Rattle.scoreboard.proofs.Waits.{object-eight}
-use Rattle.scoreboard.proofs.Named.{stalls, blocks, names-start}
+use Rattle.scoreboard.proofs.Named.{bad-number, unknown, not-waiting, not-running, names-start, stalls, blocks}
 use Rattle.scoreboard.proofs.Runs.{ran-started}
-use Rattle.scoreboard.proofs.Numbers.{refusal, bad-number, by-order, by-bytes-order}
+use Rattle.scoreboard.proofs.Numbers.{refusal, by-order, by-bytes-order}
 use Rattle.scoreboard.proofs.Stops.{Stops, stops, ran-past, ran-long}
 use Rattle.scoreboard.proofs.Orders.{map-ordered, map-bytes-ordered}
 
@@ -69,6 +69,9 @@ module _ (capacity : ℕ) (batch run records states : List ℕ) where
         kept = λ g. absurd (no g);
         end = λ z. absurd (omega arith);
         bad = λ z. absurd (omega arith);
+        unknown = λ z. absurd (omega arith);
+        notWaiting = λ z. absurd (omega arith);
+        notRunning = λ z. absurd (omega arith);
         start = λ z. absurd (omega arith);
         stalls = λ z. absurd (omega arith);
         blocks = λ z. absurd (omega arith);
@@ -109,25 +112,28 @@ module _ (capacity : ℕ) (batch run records states : List ℕ) where
     abbrev event : ℕ
     event = getD run (r .position) 0
 
+    abbrev before : List ℕ
+    before = met (r .position)
+
     -- the event that stopped it
     module _ (l : 0 < r .verdict .number) where
-      bad-event : (r .position < length run) × (r .verdict ≡ verdictOf objects (met (r .position)) event)
+      bad-event : (r .position < length run) × (r .verdict ≡ verdictOf objects before event)
       bad-event = subst (λ (n : ℕ). (n < length run) × (r .verdict ≡ verdictOf objects (met n) (getD run n 0))) at-place (s .bad (λ e. omega arith))
 
-      number-is : verdictOf objects (met (r .position)) event .number ≡ r .verdict .number
+      number-is : verdictOf objects before event .number ≡ r .verdict .number
       number-is = sym (ap (λ (v : Verdict). v .number) (bad-event .1))
 
       over : 20 < r .verdict .number
-      over = subst (λ (n : ℕ). 20 < n) number-is (bad-number objects (met (r .position)) event (omega (arith, number-is)))
+      over = subst (λ (n : ℕ). 20 < n) number-is (bad-number objects before event (omega (arith, number-is)))
 
-      named-24 : r .verdict .number ≡ 24 → Stalls objects (met (r .position)) (event / 2) (r .verdict .object)
-      named-24 z = subst⁻¹ (λ (v : Verdict). Stalls objects (met (r .position)) (event / 2) (v .object)) (bad-event .1) (stalls objects (met (r .position)) event (number-is ∙ z))
+      named-24 : r .verdict .number ≡ 24 → Stalls objects before (event / 2) (r .verdict .object)
+      named-24 z = subst⁻¹ (λ (v : Verdict). Stalls objects before (event / 2) (v .object)) (bad-event .1) (stalls objects before event (number-is ∙ z))
 
-      named-25 : r .verdict .number ≡ 25 → Blocks objects (met (r .position)) (event / 2) (r .verdict .object) (r .verdict .delta)
+      named-25 : r .verdict .number ≡ 25 → Blocks objects before (event / 2) (r .verdict .object) (r .verdict .delta)
       named-25 z =
           let cs = readingOf capacity batch .passed in
-          subst⁻¹ (λ (v : Verdict). Blocks objects (met (r .position)) (event / 2) (v .object) (v .delta)) (bad-event .1)
-          (blocks objects (met (r .position)) event (objects-eight cs cs (event / 2)) (number-is ∙ z))
+          subst⁻¹ (λ (v : Verdict). Blocks objects before (event / 2) (v .object) (v .delta)) (bad-event .1)
+          (blocks objects before event (objects-eight cs cs (event / 2)) (number-is ∙ z))
 
     claims-went : Of (wentGiven filled r)
     claims-went =
@@ -139,7 +145,10 @@ module _ (capacity : ℕ) (batch run records states : List ℕ) where
           kept = λ g. s .kept ∙ ap met at-place;
           end = λ z. sym at-place ∙ s .end z;
           bad = λ z. (bad-event (omega arith) .0, number-is (omega arith));
-          start = λ z. names-start objects (met (r .position)) event (omega (arith, number-is (omega arith)));
+          unknown = λ z. unknown objects before event (number-is (omega arith) ∙ z);
+          notWaiting = λ z. not-waiting objects before event (number-is (omega arith) ∙ z);
+          notRunning = λ z. not-running objects before event (number-is (omega arith) ∙ z);
+          start = λ z. names-start objects before event (omega (arith, number-is (omega arith)));
           stalls = λ z. named-24 (omega arith) z;
           blocks = λ z. named-25 (omega arith) z;
           started = λ g k q n. ran-started objects run states k q n;

@@ -1,9 +1,8 @@
--- What an answer's number tells: below 20 a refusal's of the batch, over 20 a bad event's. Assumes nothing.
+-- The numbers of the batch's refusals, and one law for all that the order check gives back. Assumes nothing.
 use mathlib.Core.Bool.{Bool, true, cond, _&&_}
 use mathlib.Core.List.{List, [], _∷_, _++_}
 use Prim.Native.Nat.{ℕ, zero, suc, _+_, _-_, _*_, _/_, _%_, _<_, _≤_}
-use native.Mathlib.Omega.{arith}
-use lib.Dec.{T, ltb, eqb, ltb→lt}
+use lib.Dec.{T, ltb, eqb}
 use lib.ListN.{length}
 use borrow.Author.Tests.{ltb-true, ltb-false}
 use Rattle.words.specs.Dwords.{dwordsOf}
@@ -19,26 +18,9 @@ use Rattle.command.specs.Order.{Command, stateOf}
 use Rattle.command.specs.Refusals.{headerRows, ownRows, judgeOf}
 use Rattle.batch.specs.Reading.{Stop, ended, stopped, Reading, commandAt, onward, read, readingOf}
 use Rattle.batch.specs.Answers.{atStop, decided}
-use Rattle.scoreboard.specs.declared.Verdict.{Verdict}
 use Rattle.scoreboard.specs.Objects.{Object}
-use Rattle.scoreboard.specs.Run.{Row, rows, firstRow, verdictOf, Ran, ran}
+use Rattle.scoreboard.specs.Run.{Ran, ran}
 use Rattle.scoreboard.specs.Answers.{objectsIn, begins, ordered, bytesOrdered}
-
--- a bad event's number is over 20: one computed test over the rows
-abbrev over20 : List Row → Bool
-over20 [] = true
-over20 (r ∷ rs) = ltb 20 (r .number) && over20 rs
-
-first-over : (rs : List Row) → T (over20 rs) → 0 < firstRow rs .number → 20 < firstRow rs .number
-first-over [] t = λ z. absurd (omega arith)
-first-over (r ∷ rs) t =
-    by-cond (λ (v : Verdict). 0 < v .number → 20 < v .number) (r .holds) _ (firstRow rs)
-    (λ _ _. ltb→lt 20 (r .number) (both-left (ltb 20 (r .number)) (over20 rs) t))
-    (λ _. first-over rs (both-right (ltb 20 (r .number)) (over20 rs) t))
-
-pub bad-number : (objects : List Object) (states : List ℕ) (e : ℕ) → 0 < verdictOf objects states e .number → 20 < verdictOf objects states e .number
-unfolding verdictOf
-bad-number objects states e = first-over (rows objects states e) tt
 
 -- a refusal's of the batch is neither 0 nor 20 nor more: one computed test over its rows
 abbrev pub refusal : ℕ → Bool

@@ -9,7 +9,7 @@ use lib.ListN.{length, getD, take}
 use Rattle.words.specs.Dwords.{dwordsOf}
 use Rattle.scoreboard.specs.declared.Answer.{Answer}
 use Rattle.scoreboard.specs.Objects.{Object}
-use Rattle.scoreboard.specs.Run.{stateAt, objectOfEvent, starts, verdictOf, begun, ran}
+use Rattle.scoreboard.specs.Run.{stateAt, objectOfEvent, starts, finishes, verdictOf, begun, ran}
 use Rattle.scoreboard.specs.Waits.{Stalls, Blocks, Started}
 use Rattle.scoreboard.specs.Answers.{objectsIn, answerOf, recordsOf, statesOf, bytesAnswerOf, bytesRecordsOf, bytesStatesOf}
 
@@ -25,6 +25,16 @@ module _ (capacity : ℕ) (batch run records states : List ℕ) (answer : Answer
   abbrev pub eventAt : ℕ → ℕ
   eventAt n = getD run n 0
 
+  -- the event at the answer's place, the object that it starts or finishes, and the states that it meets
+  abbrev pub event : ℕ
+  event = eventAt (answer .place)
+
+  abbrev pub k : ℕ
+  k = objectOfEvent event
+
+  abbrev pub before : List ℕ
+  before = met (answer .place)
+
   -- neither a refusal of the batch nor 20
   abbrev pub Began : Type 0
   Began = (answer .number ≡ 0) ⊎ (20 < answer .number)
@@ -38,19 +48,25 @@ module _ (capacity : ℕ) (batch run records states : List ℕ) (answer : Answer
     -- "the first bad event stops the run": every event before the place passes
     pub passed : Began → (n : ℕ) → n < answer .place → verdictOf objects (met n) (eventAt n) .number ≡ 0
     -- "earlier effects kept"
-    pub kept : Began → left ≡ met (answer .place)
+    pub kept : Began → left ≡ before
     -- "A run taken to its end answers 0 and its event count": no refusal and no bad event has the number 0
     pub end : answer .number ≡ 0 → answer .place ≡ length run
     -- ".. stops the run with its position": the event there has the number
-    pub bad : 20 < answer .number → (answer .place < length run) × (verdictOf objects (met (answer .place)) (eventAt (answer .place)) .number ≡ answer .number)
-    -- 24 and 25 are of a start: the event there "starts object k"
-    pub start : 23 < answer .number → starts (eventAt (answer .place)) ≡ true
+    pub bad : 20 < answer .number → (answer .place < length run) × (verdictOf objects before event .number ≡ answer .number)
+    -- "21 no such object"
+    pub unknown : answer .number ≡ 21 → length objects ≤ k
+    -- "22 start of one not waiting"
+    pub notWaiting : answer .number ≡ 22 → (starts event ≡ true) × (stateAt before k ≡ 0 → ⊥)
+    -- "23 finish of one not running"
+    pub notRunning : answer .number ≡ 23 → (finishes event ≡ true) × (stateAt before k ≡ 1 → ⊥)
+    -- 24 and 25 are of a start
+    pub start : 23 < answer .number → starts event ≡ true
     -- "24 it uses a scoreboard of type 0 and an earlier object is in state 0 (names the lowest)"
-    pub stalls : answer .number ≡ 24 → Stalls objects (met (answer .place)) (objectOfEvent (eventAt (answer .place))) (answer .object)
+    pub stalls : answer .number ≡ 24 → Stalls objects before k (answer .object)
     -- "25 it waits (names the lowest j and the lowest delta at it)"
-    pub blocks : answer .number ≡ 25 → Blocks objects (met (answer .place)) (objectOfEvent (eventAt (answer .place))) (answer .object) (answer .delta)
+    pub blocks : answer .number ≡ 25 → Blocks objects before k (answer .object) (answer .delta)
     -- whoever started waited for nobody then
-    pub started : Began → (k : ℕ) → k < length objects → (stateAt left k ≡ 0 → ⊥) → Started objects run 0 (begun (length objects) states) k
+    pub started : Began → (j : ℕ) → j < length objects → (stateAt left j ≡ 0 → ⊥) → Started objects run 0 (begun (length objects) states) j
     -- "State bytes past the objects never change", whatever the answer is
     pub past : (i : ℕ) → length objects ≤ i → getD left i 0 ≡ getD states i 0
     -- and no state byte is gained or lost
