@@ -7,6 +7,9 @@ pub mod Spots
 pub mod Searches
 pub mod StartRows
 pub mod RunTurns
+pub mod Numbers
+pub mod Stops
 pub mod RecordedObjects
 pub mod Orders
+pub mod Claimed
 pub mod Isolation

@@ -4,7 +4,7 @@ use mathlib.Core.Bool.{Bool, true, false, cond}
 use mathlib.Core.List.{List, []}
 use Prim.Native.Nat.{ℕ, _*_, _/_, _%_, _<_, _≤_}
 use native.Mathlib.Omega.{arith}
-use lib.Dec.{ltb}
+use lib.Dec.{ltb, eqb}
 use lib.ListN.{length, set}
 use borrow.Author.Tests.{eq-eqb, ne-eqb, lt-ltb, le-ltb}
 use Rattle.words.specs.Dwords.{dwordsOf, dwordsIn, putLe, Buffer, buffer, putIn}
@@ -142,11 +142,27 @@ module _ {A B : Type 0} (f : A → B) (refused : ℕ → ℕ → A) (went : Ran 
       go true = refl
       go false = refl
 
-  map-ordered : (capacity room : ℕ) (b run states : List ℕ) → f (ordered refused went capacity room b run states) ≡ ordered (λ m p. f (refused m p)) (λ x. f (went x)) capacity room b run states
+  pub map-ordered : (capacity room : ℕ) (b run states : List ℕ) → f (ordered refused went capacity room b run states) ≡ ordered (λ m p. f (refused m p)) (λ x. f (went x)) capacity room b run states
   unfolding ordered
   map-ordered capacity room b run states =
       map-decided f refused (λ c d. begins refused went (objectsIn capacity b) run states) capacity room b
       ∙ ap (λ (y : B). decided (λ m p. f (refused m p)) (λ c d. y) capacity room b) (map-begins (objectsIn capacity b) run states)
+
+  pub map-bytes-ordered : (capacity room : ℕ) (b run states : List ℕ) → f (bytesOrdered refused went capacity room b run states) ≡ bytesOrdered (λ m p. f (refused m p)) (λ x. f (went x)) capacity room b run states
+  unfolding bytesOrdered
+  map-bytes-ordered capacity room b run states = go (eqb (length b % 4) 0) (eqb (length run % 4) 0)
+    where
+      o : A
+      o = ordered refused went capacity room (dwordsOf b) (dwordsOf run) states
+
+      o′ : B
+      o′ = ordered (λ m p. f (refused m p)) (λ x. f (went x)) capacity room (dwordsOf b) (dwordsOf run) states
+
+      go : (t u : Bool) → f (cond t (cond u o (refused 17 (length run / 4))) (refused 17 (length b / 4)))
+          ≡ cond t (cond u o′ (f (refused 17 (length run / 4)))) (f (refused 17 (length b / 4)))
+      go true true = map-ordered capacity room (dwordsOf b) (dwordsOf run) states
+      go true false = refl
+      go false u = refl
 
 -- the dword entry: from what the core shows of dwords, with the bytes left empty
 pub dwords-records : (capacity : ℕ) (b run r states r′ none : List ℕ) → length none ≡ 0

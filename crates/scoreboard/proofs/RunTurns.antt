@@ -119,8 +119,8 @@ module _ (objects : List Object) (es : List ℕ) (L i : ℕ) (states : List ℕ)
         ∙ sym (run-off objects e (drop (suc i) es) i states (λ z. q (ap (λ (x : Verdict). x .number) ev ∙ z)))
         ∙ here
 
-    pub turn-answer : (v .number ≡ 0 → ⊥) → _≡_ {A = Answer} (record { number = v .number; place = i; object = v .object; delta = v .delta }) (ranAnswer whole)
-    turn-answer q = ap ranAnswer (off q)
+    pub turn-answer : (a : Answer) → (v .number ≡ 0 → ⊥) → a ≡ record { number = v .number; place = i; object = v .object; delta = v .delta } → a ≡ ranAnswer whole
+    turn-answer a q e = e ∙ ap ranAnswer (off q)
 
     pub turn-states : (v .number ≡ 0 → ⊥) → states ≡ whole .states
     turn-states q = ap (λ (r : Ran). r .states) (off q)

@@ -8,6 +8,7 @@ use lib.Dec.{T, ltb, leb, eqb}
 use lib.ListN.{length, getD}
 use borrow.Author.Tests.{eq-eqb, ne-eqb, le-ltb, ltb-true, ltb-false, le-leb, lt-leb, leb-true}
 use Rattle.laws.specs.Find.{NoneBelow}
+use Rattle.laws.proofs.Choices.{and-right}
 use Rattle.scoreboard.specs.declared.Verdict.{Verdict}
 use Rattle.scoreboard.specs.declared.Cursors.{Cursors}
 use Rattle.scoreboard.specs.declared.Spot.{Spot}
@@ -15,7 +16,6 @@ use Rattle.scoreboard.specs.declared.Judged.{Judged}
 use Rattle.scoreboard.specs.Objects.{Object, objectWith}
 use Rattle.scoreboard.specs.Run.{objectAt, stateAt, lowestWaiting, verdict, verdictOf}
 use Rattle.scoreboard.specs.Recorded.{objectRecorded, objectsRecorded, Spotted, Holds, stallsAt}
-use Rattle.scoreboard.proofs.Waits.{right}
 use Rattle.scoreboard.specs.Starts.{waitVerdict, startVerdict, waitingAt, unfinishedAt, nearestOf, judged, Sound}
 
 pub nearest-last : (c : Cursors) (k : ℕ) → c .last .object ≤ k → c .last ≡ nearestOf c k
@@ -65,7 +65,7 @@ min-below w k = go (ltb w k) refl
     go false e = let l : k ≤ w = ltb-false w k e in let m : k ≤ min w k = omega arith in le-ltb (min w k) k m ∙ sym e
 
 pub stalled-before : (w k : ℕ) (s t : Bool) → t ≡ (s && ltb w k) → t ≡ true → w < k
-stalled-before w k s t e q = ltb-true w k (right s (ltb w k) (sym e ∙ q))
+stalled-before w k s t e q = ltb-true w k (and-right s (ltb w k) (sym e ∙ q))
 
 module _ (d : List ℕ) (n : ℕ) (states : List ℕ) (k own w : ℕ) (t : Bool) (hk : Holds d n k own) (ew : min w k ≡ lowestWaiting states k) (et : t ≡ (stallsAt d own && ltb w k)) where
   abbrev objects : List Object

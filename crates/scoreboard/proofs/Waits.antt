@@ -15,16 +15,9 @@ use Rattle.deltas.specs.Meets.{reaches, meetsAt}
 use Rattle.scoreboard.specs.Objects.{Delta, Object, meets, deltaAt, objectWith}
 use Rattle.scoreboard.specs.Run.{objectAt, stateAt, someOf, lowestOf, waitsFor}
 use Rattle.scoreboard.specs.Waits.{Leads, Waits}
+use Rattle.laws.proofs.Choices.{and-left, and-right}
 use Rattle.laws.proofs.Tests.{both-left, both-right}
 use Rattle.deltas.proofs.Signed.{eqZ→eq}
-
-pub left : (a b : Bool) → a && b ≡ true → a ≡ true
-left true b e = refl
-left false b e = e
-
-pub right : (a b : Bool) → a && b ≡ true → b ≡ true
-right true b e = e
-right false b e = absurd (subst T (sym e) tt)
 
 pub join : (a b : Bool) → a ≡ true → b ≡ true → a && b ≡ true
 join a b p q = simp (p, q)
@@ -46,8 +39,8 @@ module _ (k j : Object) where
   met d m e =
       record {
         inPlay = m;
-        toX = eqZ-true _ _ (left (reaches (k .x) (d .dx) (j .x)) (reaches (k .y) (d .dy) (j .y)) e);
-        toY = eqZ-true _ _ (right (reaches (k .x) (d .dx) (j .x)) (reaches (k .y) (d .dy) (j .y)) e);
+        toX = eqZ-true _ _ (and-left (reaches (k .x) (d .dx) (j .x)) (reaches (k .y) (d .dy) (j .y)) e);
+        toY = eqZ-true _ _ (and-right (reaches (k .x) (d .dx) (j .x)) (reaches (k .y) (d .dy) (j .y)) e);
       }
 
   pub led : (d : Delta) → Leads k j d → meets k j d ≡ true

@@ -4,3 +4,4 @@ pub mod Waits
 pub mod Answers
 pub mod Recorded
 pub mod Starts
+pub mod Claims

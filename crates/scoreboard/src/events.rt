@@ -81,6 +81,18 @@ fn state_left(e: u32) -> u8
     2
 }
 
+// The answer of a run that a bad event stops.
+fn stopped(v: Verdict, position: usize) -> Answer
+    ensures { λ r. ⌜ r ≡ record { number = v .number; place = position; object = v .object; delta = v .delta } ⌝ }
+{
+    Answer {
+        number: v.number as u64,
+        place: position as u64,
+        object: v.object as u64,
+        delta: v.delta as u64,
+    }
+}
+
 // The events of a run, with the states as they have begun.
 pub fn run(
     rd: &[u32],
@@ -106,12 +118,7 @@ pub fn run(
         let j = judge(rd, rb, n, objects, states, e, c);
         let v = j.verdict;
         if v.number != 0 {
-            return Answer {
-                number: v.number as u64,
-                place: i as u64,
-                object: v.object as u64,
-                delta: v.delta as u64,
-            };
+            return stopped(v, i);
         }
         states[(e / 2) as usize] = state_left(e);
         c = j.cursors;

@@ -1,0 +1,84 @@
+-- What is claimed of every order check, beside what it is: whom it names, what it leaves, and what its numbers tell apart. Document 01, "Who
+-- waits for whom".
+use mathlib.Core.Path.{_≡_}
+use mathlib.Core.Bool.{true}
+use mathlib.Core.Logic.{_⊎_}
+use mathlib.Core.List.{List}
+use Prim.Native.Nat.{ℕ, _<_, _≤_}
+use lib.ListN.{length, getD, take}
+use Rattle.words.specs.Dwords.{dwordsOf}
+use Rattle.scoreboard.specs.declared.Answer.{Answer}
+use Rattle.scoreboard.specs.Objects.{Object}
+use Rattle.scoreboard.specs.Run.{stateAt, objectOfEvent, starts, finishes, verdictOf, begun, ran}
+use Rattle.scoreboard.specs.Waits.{Stalls, Blocks, Started}
+use Rattle.scoreboard.specs.Answers.{objectsIn, answerOf, recordsOf, statesOf, bytesAnswerOf, bytesRecordsOf, bytesStatesOf}
+
+-- Of a batch and a run, with the records and states lent: the answer, and what the records and states are at exit.
+module _ (capacity : ℕ) (batch run records states : List ℕ) (answer : Answer) (filled left : List ℕ) where
+  abbrev pub objects : List Object
+  objects = objectsIn capacity batch
+
+  -- the states that event n meets: "states begin 0", and each event gets what the one before left
+  abbrev pub met : ℕ → List ℕ
+  met n = ran objects (take n run) states .states
+
+  abbrev pub eventAt : ℕ → ℕ
+  eventAt n = getD run n 0
+
+  -- the event at the answer's place, the object that it starts or finishes, and the states that it meets
+  abbrev pub event : ℕ
+  event = eventAt (answer .place)
+
+  abbrev pub k : ℕ
+  k = objectOfEvent event
+
+  abbrev pub before : List ℕ
+  before = met (answer .place)
+
+  -- neither a refusal of the batch nor 20
+  abbrev pub Began : Type 0
+  Began = (answer .number ≡ 0) ⊎ (20 < answer .number)
+
+  pub record Claims : Type 0 where
+    -- "Refused with 1 to 10 (or 17) of the batch, then 20 ..: nothing changes"
+    pub refused : 0 < answer .number → answer .number < 21 → (filled ≡ records) × (left ≡ states)
+    -- "20 (fewer state bytes than objects; position 0)"
+    pub short : answer .number ≡ 20 → (length states < length objects) × (answer .place ≡ 0)
+    pub room : Began → length objects ≤ length states
+    -- "the first bad event stops the run": every event before the place passes
+    pub passed : Began → (n : ℕ) → n < answer .place → verdictOf objects (met n) (eventAt n) .number ≡ 0
+    -- "earlier effects kept"
+    pub kept : Began → left ≡ before
+    -- "A run taken to its end answers 0 and its event count": no refusal and no bad event has the number 0
+    pub end : answer .number ≡ 0 → answer .place ≡ length run
+    -- ".. stops the run with its position": the event there has the number
+    pub bad : 20 < answer .number → (answer .place < length run) × (verdictOf objects before event .number ≡ answer .number)
+    -- "21 no such object"
+    pub unknown : answer .number ≡ 21 → length objects ≤ k
+    -- "22 start of one not waiting"
+    pub notWaiting : answer .number ≡ 22 → (starts event ≡ true) × (stateAt before k ≡ 0 → ⊥)
+    -- "23 finish of one not running"
+    pub notRunning : answer .number ≡ 23 → (finishes event ≡ true) × (stateAt before k ≡ 1 → ⊥)
+    -- 24 and 25 are of a start
+    pub start : 23 < answer .number → starts event ≡ true
+    -- "24 it uses a scoreboard of type 0 and an earlier object is in state 0 (names the lowest)"
+    pub stalls : answer .number ≡ 24 → Stalls objects before k (answer .object)
+    -- "25 it waits (names the lowest j and the lowest delta at it)"
+    pub blocks : answer .number ≡ 25 → Blocks objects before k (answer .object) (answer .delta)
+    -- whoever started waited for nobody then
+    pub started : Began → (j : ℕ) → j < length objects → (stateAt left j ≡ 0 → ⊥) → Started objects run 0 (begun (length objects) states) j
+    -- "State bytes past the objects never change", whatever the answer is
+    pub past : (i : ℕ) → length objects ≤ i → getD left i 0 ≡ getD states i 0
+    -- and no state byte is gained or lost
+    pub long : length left ≡ length states
+
+-- the dword entry
+abbrev pub Claimed : ℕ → List ℕ → List ℕ → List ℕ → List ℕ → Type 0
+Claimed capacity batch run records states =
+    Claims capacity batch run records states (answerOf capacity batch run records states) (recordsOf capacity batch run records states) (statesOf capacity batch run records states)
+
+-- the byte entry, of the dwords of the batch and of the run
+abbrev pub BytesClaimed : ℕ → List ℕ → List ℕ → List ℕ → List ℕ → Type 0
+BytesClaimed capacity batch run records states =
+    Claims capacity (dwordsOf batch) (dwordsOf run) records states (bytesAnswerOf capacity batch run records states) (bytesRecordsOf capacity batch run records states)
+    (bytesStatesOf capacity batch run records states)
