@@ -1,6 +1,6 @@
 /*
  * The checker of media command batches, of runs and of gateway recordings, for C on x86-64. Link libmpl.a (`rt staticlib mpl`); it needs
- * memcpy and memset, and uses SSE registers. shim/shim.c is an example.
+ * memcpy and memset, and uses SSE registers. shim/shim.c and shim/replay.c are examples.
  *
  * What a caller owes: each pointer is valid for its length, in elements; it may be null only where that length is 0; pointers to uint32_t
  * are aligned, those to bytes need not be; no two buffers of a call overlap; during the call nobody else writes them, or reads those that
@@ -166,6 +166,38 @@ struct mpl_order mpl_check_order_dwords(const uint32_t *batch, size_t batch_len,
 struct mpl_order mpl_check_order(const uint8_t *batch, size_t batch_len, uint32_t capacity, const uint8_t *run, size_t run_len,
                                  uint8_t *records, size_t records_len, uint8_t *states, size_t states_len);
 
+/* A recording: a header of 10 bytes, a group byte a thread, then its events. 16-bit numbers have the low byte first. */
+enum {                                  /* bytes of the header; 0 to 2 hold the mark, "GWR" */
+    MPL_RECORDING_VERSION_AT = 3,       /* 16 bits: 1 */
+    MPL_RECORDING_THREADS_AT = 5,       /* 1 to 16 */
+    MPL_RECORDING_BYPASS_AT = 6,        /* 0 or 1 */
+    MPL_RECORDING_EVENTS_AT = 7,        /* 16 bits */
+    MPL_RECORDING_ZERO_AT = 9,          /* 0 */
+    MPL_RECORDING_GROUPS_AT = 10        /* a barrier's number, 0 to 15, or 255 for no group, for each thread; then the events */
+};
+enum {                                  /* bytes of an event */
+    MPL_EVENT_KIND_AT = 0,
+    MPL_EVENT_SENDER_AT = 1,            /* a thread */
+    MPL_EVENT_FLAGS_AT = 2,             /* bit 0 ack, 2:1 notify, 3 end of thread, rest zero */
+    MPL_EVENT_ACK_REGISTER_AT = 3,      /* the sender's register for the acknowledgement */
+    MPL_EVENT_TARGET_AT = 4,            /* forward: recipient; update: barrier */
+    MPL_EVENT_CODE_AT = 5,              /* open: size code; forward: length code; update: barrier byte */
+    MPL_EVENT_KEY_AT = 6,               /* 16 bits */
+    MPL_EVENT_PLACE_AT = 8,             /* 16 bits. Open: register base; forward: offset */
+    MPL_EVENT_ZEROS_AT = 10,            /* 10 to 15: zero */
+    MPL_EVENT_DATA_AT = 16,             /* 32 bytes */
+    MPL_EVENT_BYTES = 48
+};
+enum {                                  /* kinds of event: the gateway manual's SubFuncID */
+    MPL_OPEN_GATEWAY = 0,
+    MPL_CLOSE_GATEWAY = 1,
+    MPL_FORWARD = 2,
+    MPL_TIMESTAMP = 3,                  /* not served */
+    MPL_BARRIER = 4,
+    MPL_UPDATE = 5,
+    MPL_MMIO = 6                        /* not served */
+};
+
 /* Why a whole recording is turned away: the lowest that holds. */
 enum {
     MPL_RECORDING_MARK = 11,    /* under 10 bytes, or wrong mark */
@@ -178,7 +210,7 @@ enum {
 
 /* Outcome bytes, one for each event: 0 accepted, else the lowest that holds. */
 enum {
-    MPL_EVENT_MALFORMED = 31,   /* kind, sender, flags, a code, a register, an offset, a barrier or bytes 10-15 out of range */
+    MPL_EVENT_MALFORMED = 31,   /* malformed, below */
     MPL_EVENT_NOT_SERVED = 32,  /* kind 3 or 6; kind 0 or 1 under bypass */
     MPL_OPEN_PAST_END = 33,     /* base + 2^size code over 128 registers */
     MPL_NO_RECIPIENT = 34,      /* forward: recipient not a thread */
@@ -188,6 +220,12 @@ enum {
     MPL_NO_GROUP = 38,          /* barrier: sender has no group */
     MPL_WAITS_ALREADY = 39      /* barrier: sender waits already */
 };
+
+/*
+ * Malformed, number 31: kind over 6; sender not a thread; a flag bit that must be zero; end of thread with ack, or on a kind but open and
+ * close; forward with notify 3, length code over 5 or offset over 8,191; open without end of thread with base over 127 or size code over 5;
+ * ack register over 127 where the ack counts (open, close, forward, barrier); bytes 10 to 15 not zero; update of a barrier over 15.
+ */
 
 enum {
     MPL_THREADS_MOST = 16,

@@ -14,12 +14,10 @@
 
 enum { REPLAYED = 0, REFUSED = 1, FAILED = 2 };
 
-/* Where document 01's layout has what this program needs: sizes to lend by, and what it prints of an event. */
-enum { THREADS_AT = 5, EVENTS_AT = 7, HEADER_BYTES = 10 };
-enum { KIND_AT = 0, SENDER_AT = 1, EVENT_BYTES = 48 };
+enum { HEADER_BYTES = MPL_RECORDING_GROUPS_AT };
 
 /* No recording that is accepted is longer. */
-enum { RECORDING_BYTES_MOST = HEADER_BYTES + MPL_THREADS_MOST + EVENT_BYTES * UINT16_MAX };
+enum { RECORDING_BYTES_MOST = HEADER_BYTES + MPL_THREADS_MOST + MPL_EVENT_BYTES * UINT16_MAX };
 
 const char program[] = "mpl_replay";
 static const char usage[] = "usage: mpl_replay RECORDING [REGISTERS]\n"
@@ -67,8 +65,8 @@ static void read_header(struct lent *lent)
     if (lent->recording.len < HEADER_BYTES)
         return;
     const uint8_t *header = lent->recording.bytes;
-    lent->threads = header[THREADS_AT] < MPL_THREADS_MOST ? header[THREADS_AT] : MPL_THREADS_MOST;
-    lent->events = (size_t)header[EVENTS_AT] | (size_t)header[EVENTS_AT + 1] << 8;
+    lent->threads = header[MPL_RECORDING_THREADS_AT] < MPL_THREADS_MOST ? header[MPL_RECORDING_THREADS_AT] : MPL_THREADS_MOST;
+    lent->events = (size_t)header[MPL_RECORDING_EVENTS_AT] | (size_t)header[MPL_RECORDING_EVENTS_AT + 1] << 8;
 }
 
 /* The registers begin as zeros. The replay sets the counts and outcomes itself, so that they need not be cleared. */
@@ -110,8 +108,8 @@ static void print_event(size_t i, uint8_t kind, uint8_t sender, uint8_t outcome)
 static void print_events(const struct lent *lent)
 {
     const uint8_t *event = lent->recording.bytes + HEADER_BYTES + lent->threads;
-    for (size_t i = 0; i < lent->events; i++, event += EVENT_BYTES)
-        print_event(i, event[KIND_AT], event[SENDER_AT], lent->outcomes.bytes[i]);
+    for (size_t i = 0; i < lent->events; i++, event += MPL_EVENT_BYTES)
+        print_event(i, event[MPL_EVENT_KIND_AT], event[MPL_EVENT_SENDER_AT], lent->outcomes.bytes[i]);
 }
 
 static void print_counts(const uint32_t *counts, size_t threads)
