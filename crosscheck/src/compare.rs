@@ -7,13 +7,9 @@ use std::fmt::Write;
 pub mod batch;
 pub mod fuzz;
 pub mod in_play;
-#[cfg(feature = "order")]
 pub mod isolation;
-#[cfg(feature = "listing")]
 pub mod listing;
-#[cfg(feature = "order")]
 pub mod order;
-#[cfg(feature = "replay")]
 pub mod replay;
 
 /// How many disagreements are printed in full.
@@ -112,7 +108,6 @@ impl Tally {
     }
 
     /// One more row to be reached.
-    #[cfg(any(feature = "listing", feature = "order"))]
     fn and(mut self, number: u64, of: &'static str) -> Self {
         *self.row(number, of) = 0;
         self

@@ -5,14 +5,10 @@ use crate::batch::Answer;
 mod in_play;
 pub use in_play::deltas_in_play;
 
-#[cfg(feature = "order")]
 mod order;
-#[cfg(feature = "order")]
 pub use order::{check_order, check_order_dwords};
 
-#[cfg(feature = "replay")]
 mod replay;
-#[cfg(feature = "replay")]
 pub use replay::replay;
 
 extern "C" {

@@ -1,8 +1,7 @@
 //! Compares the library with the second implementation on seeded cases.
 //!
-//! `compare [subject] [cases [seed [index]]]`: one subject alone, as far as the
-//! features reach; random cases per subject on top of the fixed ones, the seed, and
-//! one case to compare alone.
+//! `compare [subject] [cases [seed [index]]]`: one subject alone; random cases per
+//! subject on top of the fixed ones, the seed, and one case to compare alone.
 
 use crosscheck::compare::{self, Plan, Report};
 use std::process::ExitCode;
@@ -10,19 +9,14 @@ use std::process::ExitCode;
 /// A subject's name, its random cases where none are asked for, and what compares it.
 type Subject = (&'static str, u64, fn(&Plan, &mut Report));
 
-/// As far as the features reach.
 const SUBJECTS: &[Subject] = &[
     ("batch", 175_000, compare::batch::run),
     ("in_play", 0, compare::in_play::run),
-    #[cfg(feature = "order")]
     ("order", 175_000, compare::order::run),
-    #[cfg(feature = "order")]
     ("isolation", 40_000, compare::isolation::run),
-    #[cfg(feature = "replay")]
     ("replay", 175_000, compare::replay::run),
     ("fuzz", 50_000, compare::fuzz::run),
     // A process each.
-    #[cfg(feature = "listing")]
     ("listing", 250, compare::listing::run),
 ];
 

@@ -6,8 +6,6 @@ use crate::generate::fuzz;
 
 pub fn run(plan: &Plan, report: &mut Report) {
     super::batch::each(plan, report, &[], fuzz::batch);
-    #[cfg(feature = "order")]
     super::order::each(plan, report, &[], fuzz::order);
-    #[cfg(feature = "replay")]
     super::replay::each(plan, report, &[], fuzz::recording);
 }

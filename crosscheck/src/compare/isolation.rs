@@ -10,7 +10,6 @@ use crate::guard::Cell;
 use crate::random::Random;
 use std::fmt::Debug;
 
-#[cfg(feature = "replay")]
 mod recordings;
 
 pub fn run(plan: &Plan, report: &mut Report) {
@@ -33,7 +32,6 @@ pub fn run(plan: &Plan, report: &mut Report) {
         println!("pairs of batches that differ: {pairs}, in {dwords} dwords");
         tallies.print(report);
     }
-    #[cfg(feature = "replay")]
     recordings::run(plan, report);
 }
 

@@ -1,12 +1,10 @@
 //! Time of the library and of the second implementation on the same inputs, as
 //! Markdown tables.
 //!
-//! `bench [batch|order|replay]`: all subjects that the features switch on, or one.
+//! `bench [batch|order|replay]`: all subjects, or one.
 
 mod batch;
-#[cfg(feature = "order")]
 mod order;
-#[cfg(feature = "replay")]
 mod replay;
 mod table;
 mod timing;
@@ -16,12 +14,9 @@ use std::process::ExitCode;
 /// What measures one subject.
 type Subject = (&'static str, fn());
 
-/// As far as the features reach.
 const SUBJECTS: &[Subject] = &[
     ("batch", batch::run),
-    #[cfg(feature = "order")]
     ("order", order::run),
-    #[cfg(feature = "replay")]
     ("replay", replay::run),
 ];
 
