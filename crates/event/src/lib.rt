@@ -32,7 +32,7 @@ pub struct Setup {
     pub groups: [u8; 16],
 }
 
-// A thread's gateway. All are 0 where it is closed; `live` is 1 where it is open.
+// A thread's gateway: "open or closed, with base, size and key". All are 0 where it is closed; `live` is 1 where it is open.
 #[repr(C)]
 pub struct Gateway {
     pub live: u32,

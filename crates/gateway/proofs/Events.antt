@@ -60,8 +60,7 @@ module _ (s : Setup) (ev : List ℕ) (w : State) (rs : List ℕ) (event : length
       let hd : a + n ≤ length rs = omega arith in
       let hs : n ≤ length (drop 16 ev) = simp length-drop (omega arith) in
       record {
-        from = f;
-        to = rw (← e) t;
+        recipients = record { from = f; to = rw (← e) t };
         inside = λ j l. paste-in 0 rs a (drop 16 ev) n hd hs j (rw e l) ∙ getD-drop 16 ev j 0;
         before = λ p l. paste-before 0 rs a (drop 16 ev) n hd hs p l;
         after = λ p l. paste-after 0 rs a (drop 16 ev) n hd hs p (rw e l);

@@ -13,6 +13,7 @@ use Rattle.event.specs.Head.{headOf}
 use Rattle.event.specs.Codes.{countOf, gatewayAt}
 use Rattle.event.specs.Groups.{noGroup, groupOf, waitsOf, wholeOf, groupSize, ownGroup, wholeWith}
 use Rattle.event.specs.Outcomes.{isForward, isBarrier, forwardStart}
+use Rattle.event.specs.Within.{OwnBytes}
 use Rattle.gateway.specs.Recording.{threadsOf, eventsOf, setupOf, eventAt, refusalOf}
 use Rattle.effects.specs.Effects.{n0, n2, ackPlace, withAck}
 use Rattle.gateway.specs.Replay.{State, World, barrierOf, runOf, stepOf, begun, Replay, replayOf}
@@ -66,8 +67,7 @@ forwardPlace s h w = forwardStart h s (gatewayAt (w .gateways) (h .target))
 
 -- The bytes rs′ are rs with 2^code bytes of data from there on, and these are the recipient's.
 pub record Written (s : Setup) (ev : List ℕ) (w : State) (rs rs′ : List ℕ) : Type 0 where
-  pub from : 4096 * headOf ev .target ≤ forwardPlace s (headOf ev) w
-  pub to : forwardPlace s (headOf ev) w + countOf (headOf ev .code) ≤ 4096 * headOf ev .target + 4096
+  pub recipients : OwnBytes (headOf ev .target) (forwardPlace s (headOf ev) w) (countOf (headOf ev .code))
   pub inside : (j : ℕ) → j < countOf (headOf ev .code) → getD rs′ (forwardPlace s (headOf ev) w + j) 0 ≡ getD ev (16 + j) 0
   pub before : (p : ℕ) → p < forwardPlace s (headOf ev) w → getD rs′ p 0 ≡ getD rs p 0
   pub after : (p : ℕ) → forwardPlace s (headOf ev) w + countOf (headOf ev .code) ≤ p → getD rs′ p 0 ≡ getD rs p 0

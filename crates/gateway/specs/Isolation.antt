@@ -31,7 +31,7 @@ pub record Data (n : ℕ) (rec : List ℕ) (k : ℕ) : Type 0 where
   pub kind : byteAt rec (firstEvent rec + 48 * event + 0) ≡ 2
   pub names : byteAt rec (firstEvent rec + 48 * event + 4) ≡ n
 
--- two recordings of one length that agree but for such bytes
+-- two recordings that agree but for such bytes; "Two things said to agree but for some bytes .. have one length"
 pub record Alike (n : ℕ) (rec rec′ : List ℕ) : Type 0 where
   pub long : length rec ≡ length rec′
   pub same : (k : ℕ) → (Data n rec k → ⊥) → getD rec k 0 ≡ getD rec′ k 0

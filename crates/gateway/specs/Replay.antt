@@ -19,7 +19,7 @@ use Rattle.gateway.specs.declared.Replayed.{Replayed}
 use Rattle.gateway.specs.Recording.{setupOf, eventsOf, eventAt, refusalOf}
 use Rattle.effects.specs.Effects.{gatewaysAfter, bytesAfter, waitsAfter, countsAfter, forwarded, withAck}
 
--- What an event leaves to the next: each thread's gateway, each barrier's byte, and which threads wait.
+-- What an event leaves to the next: each thread's gateway, "open or closed, with base, size and key", each barrier's byte, and which threads wait.
 pub record State : Type 0 where
   pub gateways : List Gateway
   pub bytes : List ℕ
@@ -78,6 +78,7 @@ begun registers counts outcomes = record { state = start; registers = registers;
 abbrev pub waitingOf : ℕ → List ℕ → ℕ → List Bool → ℕ
 waitingOf n groups b waits = bitsWhere (λ t. eqb (groupOf groups t) b && waitsOf waits t) n
 
+-- "a barrier is its byte and who waits"
 abbrev pub barrierOf : Setup → State → ℕ → Barrier
 barrierOf s w b = record { byte = getD (w .bytes) b 0; waiting = waitingOf (s .threads) (s .groups) b (w .waits) }
 
@@ -87,7 +88,7 @@ emptyBarrier = record { byte = 0; waiting = 0 }
 unfoldable pub barriersOf : Setup → State → List Barrier
 barriersOf s w = filled (barrierOf s w) 16 (replicate 16 emptyBarrier)
 
--- The answer: "The answer holds the end gateways and barriers"; a refusal's are closed and empty.
+-- The answer, "every number returned": "The answer holds the end gateways and barriers"; a refusal's are closed and empty.
 abbrev pub refusedAnswer : ℕ → Replayed
 refusedAnswer number = record { number = number; gateways = replicate 16 closed; barriers = replicate 16 emptyBarrier }
 

@@ -10,7 +10,7 @@ pub mod recording;
 pub mod run;
 pub mod step;
 
-// A barrier. Bit t of `waiting`: thread t waits.
+// A barrier: "its byte and who waits". Bit t of `waiting`: thread t waits.
 #[repr(C)]
 pub struct Barrier {
     pub byte: u32,
@@ -43,8 +43,8 @@ fn clear(counts: &mut [u32])
     }
 }
 
-// Replays a recording. On refusals 11 to 16 nothing lent changes. Otherwise the events' bytes stand in `registers`, 4,096 a thread, the
-// notifications in `counts`, N0 and N2 of each thread, and each event's outcome in `outcomes`.
+// Replays a recording. On refusals 11 to 16 nothing lent changes. Otherwise the bytes of accepted forwards and the
+// acknowledgements stand in `registers`, 4,096 bytes a thread, the notifications in `counts`, N0 and N2 of each thread, and each event's outcome in `outcomes`.
 pub fn replay(
     recording: &[u8],
     registers: &mut [u8],
