@@ -36,23 +36,25 @@ standsSince kinds last (c ∷ cs) = since kinds last (c .kind) (standsSince kind
 abbrev pub earlierVfe : List Command → ℕ
 earlierVfe cs = standsSince (3 ∷ []) [] cs
 
--- "no command of kind 3, 4, 5 or 7 stands since the last MI_FLUSH or the start": 1 where one does
+-- "no command of kind 3, 4, 5 or 7 stands since the last MI_FLUSH or the start": those kinds, and the flush's
 abbrev pub mediaKinds : List ℕ
 mediaKinds = 3 ∷ 4 ∷ 5 ∷ 7 ∷ []
 
 abbrev pub mediaFlushes : List ℕ
 mediaFlushes = 1 ∷ []
 
+-- 1 where one does
 abbrev pub mediaSinceFlush : List Command → ℕ
 mediaSinceFlush cs = standsSince mediaKinds mediaFlushes cs
 
--- "no OBJECT stands since the last kind 1 or 6": 1 where one does
+-- "no OBJECT stands since the last kind 1 or 6": its kind, and those two
 abbrev pub objectKinds : List ℕ
 objectKinds = 7 ∷ []
 
 abbrev pub objectFlushes : List ℕ
 objectFlushes = 1 ∷ 6 ∷ []
 
+-- 1 where one does
 abbrev pub objectSinceFlush : List Command → ℕ
 objectSinceFlush cs = standsSince objectKinds objectFlushes cs
 

@@ -70,7 +70,7 @@ readText cs (stopped number place) = refusedLine number place
 unfoldable pub batchText : List ℕ → List ℕ
 batchText b = readText (readingOf 2048 b .passed) (readingOf 2048 b .stop)
 
--- 17
+-- 17, of the input
 abbrev pub oddText : List ℕ → List ℕ
 oddText input = partDword refusedLine input
 
