@@ -6,7 +6,7 @@ use Prim.Native.Nat.{ℕ, zero, suc, _+_, _-_, _*_, _/_, _%_, _<_, _≤_}
 use native.Mathlib.Omega.{arith}
 use mathlib.Core.List.{List, [], _∷_}
 use lib.ListN.{length, getD, set}
-use lib.Dec.{eqb, ltb}
+use lib.Dec.{T, eqb, ltb}
 use borrow.Author.Tests.{ltb-false, eqb-true}
 use Rattle.words.specs.Dwords.{dwordsOf}
 use Rattle.words.proofs.Dwords.{length-dwords}
@@ -16,7 +16,7 @@ use Rattle.command.specs.declared.Verdict.the-variants.{Fault, Passed}
 use Rattle.command.specs.Kinds.{kindOf}
 use Rattle.command.specs.Order.{Command, stateOf, stateAfter}
 use Rattle.command.specs.Refusals.{judgeOf}
-use Rattle.command.proofs.Judged.{fault-number}
+use Rattle.command.proofs.Judged.{refusal, Faulty, fault-number}
 use Rattle.batch.specs.declared.Answer.{Answer}
 use Rattle.batch.specs.Reading.{Stop, ended, stopped, Reading, reading, andThen, commandAt, onward, readingOf}
 use Rattle.batch.specs.Records.{written}
@@ -25,31 +25,31 @@ use Rattle.batch.specs.Answers.{atStop, decided, refusedAnswer, accepted
 use Rattle.batch.proofs.Walk.{walk, reading-walk}
 use Rattle.batch.proofs.Same.{same-reading, same-decision}
 
--- how reading stopped, where it was at a refusal: its number is not 0
-abbrev Numbered : Stop → Type 0
-Numbered (ended d) = Unit
-Numbered (stopped m p) = m ≡ 0 → ⊥
+-- how reading stopped, where it was at a refusal: its number is a refusal's of the batch
+abbrev pub Refused : Stop → Type 0
+Refused (ended d) = Unit
+Refused (stopped m p) = T (refusal m)
 
-numbered-end : (x : Bool) (c : Command) (r : Reading) → Numbered (r .stop) → Numbered (cond x (reading (c ∷ []) (ended (c .place + 1))) (andThen c r) .stop)
-numbered-end true c r h = tt
-numbered-end false c r h = h
+refused-end : (x : Bool) (c : Command) (r : Reading) → Refused (r .stop) → Refused (cond x (reading (c ∷ []) (ended (c .place + 1))) (andThen c r) .stop)
+refused-end true c r h = tt
+refused-end false c r h = h
 
-numbered-verdict : (v : Verdict) (c : Command) (r : Reading) → ((m s : ℕ) → v ≡ Fault m s → m ≡ 0 → ⊥) → Numbered (r .stop) → Numbered (onward v c r .stop)
-numbered-verdict (Fault m s) c r f h = f m s refl
-numbered-verdict Passed c r f h = numbered-end (eqb (c .kind) 2) c r h
+refused-verdict : (v : Verdict) (c : Command) (r : Reading) → Faulty v → Refused (r .stop) → Refused (onward v c r .stop)
+refused-verdict (Fault m s) c r f h = f
+refused-verdict Passed c r f h = refused-end (eqb (c .kind) 2) c r h
 
-numbered-walk : (l : List ℕ) (n at : ℕ) (st : State) → Numbered (walk l n at st .stop)
+refused-walk : (l : List ℕ) (n at : ℕ) (st : State) → Refused (walk l n at st .stop)
 unfolding walk
-numbered-walk [] n at st = λ e. omega arith
-numbered-walk (d ∷ ds) (suc n) at st = numbered-walk ds n (at + 1) st
-numbered-walk (d ∷ ds) zero at st =
+refused-walk [] n at st = tt
+refused-walk (d ∷ ds) (suc n) at st = refused-walk ds n (at + 1) st
+refused-walk (d ∷ ds) zero at st =
     let k = kindOf d in
     let c = commandAt k (d ∷ ds) at st in
-    numbered-verdict (judgeOf k (suc (length ds)) (c .head) st) c (walk ds (c .total - 1) (at + 1) (stateAfter k (c .head) st))
-    (fault-number k (suc (length ds)) (c .head) st) (numbered-walk ds (c .total - 1) (at + 1) (stateAfter k (c .head) st))
+    refused-verdict (judgeOf k (suc (length ds)) (c .head) st) c (walk ds (c .total - 1) (at + 1) (stateAfter k (c .head) st))
+    (fault-number k (suc (length ds)) (c .head) st) (refused-walk ds (c .total - 1) (at + 1) (stateAfter k (c .head) st))
 
-numbered-reading : (capacity : ℕ) (b : List ℕ) → Numbered (readingOf capacity b .stop)
-numbered-reading capacity b = subst (λ (r : Reading). Numbered (r .stop)) (sym (reading-walk capacity b)) (numbered-walk b 0 0 (stateOf capacity []))
+pub read-refused : (capacity : ℕ) (b : List ℕ) → Refused (readingOf capacity b .stop)
+read-refused capacity b = subst (λ (r : Reading). Refused (r .stop)) (sym (reading-walk capacity b)) (refused-walk b 0 0 (stateOf capacity []))
 
 -- an answer with the number 0 is success, and nothing else is
 zero-number : (m p c d : ℕ) → refusedAnswer m p ≡ acceptedAnswer c d → m ≡ 0
@@ -59,8 +59,8 @@ room-ended : (t : Bool) (room n d c e : ℕ) → ltb room (16 * n) ≡ t → con
 room-ended true room n d c e q h = let z = zero-number 10 d c e h in absurd (omega arith)
 room-ended false room n d c e q h = (ap (λ (a : Answer). a .commands) h, ap (λ (a : Answer). a .dwords) h, ltb-false room (16 * n) q)
 
-stop-ended : (room n : ℕ) (s : Stop) (c d : ℕ) → Numbered s → atStop refusedAnswer acceptedAnswer room n s ≡ acceptedAnswer c d → (n ≡ c) × (s ≡ ended d) × (16 * n ≤ room)
-stop-ended room n (stopped m p) c d g h = absurd (g (zero-number m p c d h))
+stop-ended : (room n : ℕ) (s : Stop) (c d : ℕ) → Refused s → atStop refusedAnswer acceptedAnswer room n s ≡ acceptedAnswer c d → (n ≡ c) × (s ≡ ended d) × (16 * n ≤ room)
+stop-ended room n (stopped m p) c d g h = absurd (subst (λ (n : ℕ). T (refusal n)) (zero-number m p c d h) g)
 stop-ended room n (ended e) c d g h = let z = room-ended (ltb room (16 * n)) room n e c d refl h in (z .0, ap ended (z .1), z .2)
 
 length-ended : (t : Bool) (n : ℕ) (a : Answer) (c d : ℕ) → ltb 16384 n ≡ t → cond t (refusedAnswer 1 0) a ≡ acceptedAnswer c d → (n ≤ 16384) × (a ≡ acceptedAnswer c d)
@@ -75,7 +75,7 @@ module _ (capacity : ℕ) (b r : List ℕ) (c d : ℕ) (h : answerOf capacity b 
       (atStop refusedAnswer acceptedAnswer (length r) (length (readingOf capacity b .passed)) (readingOf capacity b .stop)) c d refl h
 
   ends : (length (readingOf capacity b .passed) ≡ c) × (readingOf capacity b .stop ≡ ended d) × (16 * length (readingOf capacity b .passed) ≤ length r)
-  ends = stop-ended (length r) (length (readingOf capacity b .passed)) (readingOf capacity b .stop) c d (numbered-reading capacity b) (limits .1)
+  ends = stop-ended (length r) (length (readingOf capacity b .passed)) (readingOf capacity b .stop) c d (read-refused capacity b) (limits .1)
 
   -- an accepted batch passes all its commands, as many as the answer counts
   pub accepted-commands : length (readingOf capacity b .passed) ≡ c

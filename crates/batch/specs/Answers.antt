@@ -27,12 +27,21 @@ module _ {A : Type 0} (refused : ℕ → ℕ → A) (accepted : ℕ → ℕ → 
       cond (ltb 16384 (length b)) (refused 1 0)
       (atStop room (length (readingOf capacity b .passed)) (readingOf capacity b .stop))
 
--- The answer's numbers. What the paper leaves free, the place on success and the counts on refusal, is 0.
+-- "An answer is every number returned." What the paper leaves free, the place on success and the counts on refusal, is 0.
 abbrev pub refusedAnswer : ℕ → ℕ → Answer
 refusedAnswer number place = record { number = number; place = place; commands = 0; dwords = 0 }
 
 abbrev pub acceptedAnswer : ℕ → ℕ → Answer
 acceptedAnswer commands dwords = record { number = 0; place = 0; commands = commands; dwords = dwords }
+
+-- 17, "byte entry only: batch, then run, not a multiple of 4 bytes; checked first (place: its whole dwords)": what the refusal means is the
+-- argument, as above.
+abbrev pub partDword : {A : Type 0} → (ℕ → ℕ → A) → List ℕ → A
+partDword refused bytes = refused 17 (length bytes / 4)
+
+-- what is given back for bytes that are whole dwords, else the refusal
+abbrev pub wholeDwords : {A : Type 0} → (ℕ → ℕ → A) → List ℕ → A → A
+wholeDwords refused bytes given = cond (eqb (length bytes % 4) 0) given (partDword refused bytes)
 
 -- the record buffer with the records of the commands passed
 abbrev pub recorded : {B : Type 0} → (B → ℕ → ℕ → B) → ℕ → List ℕ → B → B
@@ -49,13 +58,12 @@ answerOf capacity b r = decided refusedAnswer acceptedAnswer capacity (length r)
 unfoldable pub recordsOf : ℕ → List ℕ → List ℕ → List ℕ
 recordsOf capacity b r = recordedIn set capacity (length r) b r
 
--- The byte entry. 17: "batch .. not a multiple of 4 bytes; checked first (place: its whole dwords). Records there take 64 bytes each".
+-- the byte entry: "Records there take 64 bytes each"
 unfoldable pub bytesAnswerOf : ℕ → List ℕ → List ℕ → Answer
-bytesAnswerOf capacity b r =
-    cond (eqb (length b % 4) 0) (decided refusedAnswer acceptedAnswer capacity (length r / 4) (dwordsOf b)) (refusedAnswer 17 (length b / 4))
+bytesAnswerOf capacity b r = wholeDwords refusedAnswer b (decided refusedAnswer acceptedAnswer capacity (length r / 4) (dwordsOf b))
 
 unfoldable pub bytesRecordsOf : ℕ → List ℕ → List ℕ → List ℕ
-bytesRecordsOf capacity b r = cond (eqb (length b % 4) 0) (recordedIn putLe capacity (length r / 4) (dwordsOf b) r) r
+bytesRecordsOf capacity b r = wholeDwords (λ m p. r) b (recordedIn putLe capacity (length r / 4) (dwordsOf b) r)
 
 -- what the first pass finds, 1 and 10 aside: a batch read to its end has so many commands n, and so many objects o
 abbrev pub scanned : ℕ → ℕ → Stop → Scanned

@@ -3,12 +3,13 @@ use mathlib.Core.Path.{_≡_}
 use mathlib.Core.Logic.{_⊎_}
 use mathlib.Core.List.{List, [], _∷_}
 use Prim.Native.Nat.{ℕ, _+_, _≤_, _<_}
+use Rattle.command.specs.Kinds.{inlineFrom}
 use Rattle.command.specs.Order.{Command}
 use Rattle.batch.specs.Reading.{Stop, ended, stopped, Reading}
 
 -- dword i of the batch is inline data of the command c: "Inline data is an OBJECT's dwords from 6 on"
 abbrev pub InlineData : Command → ℕ → Type 0
-InlineData c i = (c .kind ≡ 7) × (c .place + 6 ≤ i) × (i < c .place + c .total)
+InlineData c i = (c .kind ≡ 7) × (c .place + inlineFrom ≤ i) × (i < c .place + c .total)
 
 -- of one of the commands
 abbrev pub Inline : List Command → ℕ → Type 0

@@ -5,7 +5,7 @@ ghost use lib.ListN.{length, getD, set, drop};
 ghost use Rattle.words.specs.Dwords.{dwordsIn, buffer, putIn};
 ghost use Rattle.command.specs.Kinds.{kindOf};
 ghost use Rattle.batch.specs.Reading.{readingOf, Whole};
-ghost use Rattle.batch.specs.Records.{slot, putWords, written};
+ghost use Rattle.batch.specs.Records.{slot, putWords};
 ghost use Rattle.batch.specs.Answers.{scanOf, decisionOf, refusedAnswer, acceptedAnswer, recorded, answerOf, recordsOf, bytesAnswerOf, bytesRecordsOf};
 ghost use Rattle.batch.specs.Turns.{turnOf, Passes, onwardOf, here};
 ghost use Rattle.command.specs.Record.{recordOf};

@@ -1,13 +1,14 @@
 -- Rows 3 to 5, then rows 6 to 9; and what a command that passes keeps to. Assumes nothing.
-use mathlib.Core.Path.{_≡_, refl, sym, subst, _∙_}
+use mathlib.Core.Path.{_≡_, refl, sym}
 use mathlib.Core.Bool.{Bool, true, false, cond, not, _&&_}
 use Prim.Native.Nat.{ℕ, zero, suc, _+_, _≤_}
 use native.Mathlib.Omega.{arith}
 use mathlib.Core.List.{List, [], _∷_, _++_}
 use lib.Dec.{T, eqb, ltb}
 use lib.ListN.{getD}
-use borrow.Author.Tests.{ltb-false, leb-true, eqb-true, eqb-false, eq-eqb, ne-eqb, le-ltb, not-false}
+use borrow.Author.Tests.{ltb-false, leb-true, eqb-true, eqb-false, ne-eqb, le-ltb, not-false}
 use Rattle.laws.specs.Rows.{Row, row, firstRow}
+use Rattle.laws.proofs.Choices.{by-cond}
 use Rattle.laws.proofs.Tests.{both-left, both-right}
 use Rattle.command.specs.declared.State.{State}
 use Rattle.command.specs.declared.Verdict.{Verdict}
@@ -137,24 +138,24 @@ total-pos k d = go (ltb k 3)
     go true = omega arith
     go false = omega arith
 
--- No refusal has the number 0, which is kept for success: one computed test over the rows.
-numbered : List Row → Bool
-numbered [] = true
-numbered (r ∷ rs) = not (eqb (r .number) 0) && numbered rs
+-- The number of a refusal is neither 0, which is kept for success, nor 20 or more, which are the run's: one computed test over the rows.
+abbrev pub refusal : ℕ → Bool
+refusal m = ltb 0 m && ltb m 20
 
-row-number : (x : Row) (u : Verdict) (t : Bool) (m s : ℕ) → T (not (eqb (x .number) 0)) → (u ≡ Fault m s → m ≡ 0 → ⊥) → cond t (Fault (x .number) (x .place)) u ≡ Fault m s → m ≡ 0 → ⊥
-row-number x u true m s q ih e z =
-    let y : x .number ≡ m = cc in
-    let w : eqb (x .number) 0 ≡ true = eq-eqb (x .number) 0 (y ∙ z) in subst (λ (b : Bool). T (not b)) w q
-row-number x u false m s q ih e z = ih e z
+abbrev refusals : List Row → Bool
+refusals [] = true
+refusals (r ∷ rs) = refusal (r .number) && refusals rs
 
-first-number : (rs : List Row) (m s : ℕ) → T (numbered rs) → firstRow Fault Passed rs ≡ Fault m s → m ≡ 0 → ⊥
-unfolding numbered
-first-number [] m s q e z = never m s (sym e)
-first-number (x ∷ xs) m s q e z =
-    row-number x (firstRow Fault Passed xs) (x .holds) m s (both-left (not (eqb (x .number) 0)) (numbered xs) q)
-    (first-number xs m s (both-right (not (eqb (x .number) 0)) (numbered xs) q)) e z
+abbrev pub Faulty : Verdict → Type 0
+Faulty (Fault m s) = T (refusal m)
+Faulty Passed = Unit
 
-pub fault-number : (k left : ℕ) (h : List ℕ) (st : State) (m s : ℕ) → judgeOf k left h st ≡ Fault m s → m ≡ 0 → ⊥
-unfolding judgeOf numbered
-fault-number k left h st m s e z = first-number (headerRows k (dword h 0) left ++ ownRows k h st) m s tt e z
+first-faulty : (rs : List Row) → T (refusals rs) → Faulty (firstRow Fault Passed rs)
+first-faulty [] t = tt
+first-faulty (r ∷ rs) t =
+    by-cond Faulty (r .holds) (Fault (r .number) (r .place)) (firstRow Fault Passed rs) (λ _. both-left (refusal (r .number)) (refusals rs) t)
+    (λ _. first-faulty rs (both-right (refusal (r .number)) (refusals rs) t))
+
+pub fault-number : (k left : ℕ) (h : List ℕ) (st : State) → Faulty (judgeOf k left h st)
+unfolding judgeOf
+fault-number k left h st = first-faulty (headerRows k (dword h 0) left ++ ownRows k h st) tt

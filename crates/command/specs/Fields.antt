@@ -47,8 +47,8 @@ children h = field (bits 31 31) (dword h 2)
 abbrev pub synchronised : List ℕ → ℕ
 synchronised h = field (bits 24 24) (dword h 2)
 
-abbrev pub usesScoreboard : List ℕ → ℕ
-usesScoreboard h = field (bits 21 21) (dword h 2)
+abbrev pub scoreboardUse : List ℕ → ℕ
+scoreboardUse h = field (bits 21 21) (dword h 2)
 
 abbrev pub indirectLength : List ℕ → ℕ
 indirectLength h = field (bits 16 0) (dword h 2)

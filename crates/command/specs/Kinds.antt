@@ -54,9 +54,13 @@ lengthAllowed k n =
 unfoldable pub totalOf : ℕ → ℕ → ℕ
 totalOf k d = cond (ltb k 3) 1 (lengthField d + 2)
 
--- How many dwords a kind has of its own: its whole total, but six of an OBJECT, which has "inline data from dword 6".
+-- "inline data from dword 6": the first that is not an OBJECT's own
+abbrev pub inlineFrom : ℕ
+inlineFrom = 6
+
+-- How many dwords a kind has of its own: its whole total, but of an OBJECT those before its inline data.
 unfoldable pub ownDwords : ℕ → ℕ
-ownDwords k = cond (eqb k 7) 6 (cond (eqb k 3) 8 (cond (eqb k 4) 4 (cond (eqb k 5) 4 (cond (eqb k 6) 2 1))))
+ownDwords k = cond (eqb k 7) inlineFrom (cond (eqb k 3) 8 (cond (eqb k 4) 4 (cond (eqb k 5) 4 (cond (eqb k 6) 2 1))))
 
 -- dword i of a command of kind k that the list starts with, and 0 where that is not one of its own
 abbrev pub ownDword : ℕ → List ℕ → ℕ → ℕ

@@ -7,8 +7,8 @@ use lib.Dec.{eqb}
 use Rattle.command.specs.declared.State.{State}
 use Rattle.command.specs.Fields.{curbeSize, loadCount}
 
--- A command that was passed (document 01: "neither it nor an earlier one is faulty"): its kind, its place, its total, its own dwords, and
--- for its record the number of the VFE's record in force and of the objects before it.
+-- A command that was passed: "A command is passed when neither it nor an earlier one is faulty, whatever 1, 10 and 17 say". Its kind, its
+-- place, its total, its own dwords, and for its record the number of the VFE's record in force and of the objects before it.
 pub record Command : Type 0 where
   pub kind : ℕ
   pub place : ℕ
@@ -36,13 +36,27 @@ standsSince kinds last (c ∷ cs) = since kinds last (c .kind) (standsSince kind
 abbrev pub earlierVfe : List Command → ℕ
 earlierVfe cs = standsSince (3 ∷ []) [] cs
 
--- "no command of kind 3, 4, 5 or 7 stands since the last MI_FLUSH or the start": 1 where one does
-abbrev pub mediaSinceFlush : List Command → ℕ
-mediaSinceFlush cs = standsSince (3 ∷ 4 ∷ 5 ∷ 7 ∷ []) (1 ∷ []) cs
+-- "no command of kind 3, 4, 5 or 7 stands since the last MI_FLUSH or the start": those kinds, and the flush's
+abbrev pub mediaKinds : List ℕ
+mediaKinds = 3 ∷ 4 ∷ 5 ∷ 7 ∷ []
 
--- "no OBJECT stands since the last kind 1 or 6": 1 where one does
+abbrev pub mediaFlushes : List ℕ
+mediaFlushes = 1 ∷ []
+
+-- 1 where one does
+abbrev pub mediaSinceFlush : List Command → ℕ
+mediaSinceFlush cs = standsSince mediaKinds mediaFlushes cs
+
+-- "no OBJECT stands since the last kind 1 or 6": its kind, and those two
+abbrev pub objectKinds : List ℕ
+objectKinds = 7 ∷ []
+
+abbrev pub objectFlushes : List ℕ
+objectFlushes = 1 ∷ 6 ∷ []
+
+-- 1 where one does
 abbrev pub objectSinceFlush : List Command → ℕ
-objectSinceFlush cs = standsSince (7 ∷ []) (1 ∷ 6 ∷ []) cs
+objectSinceFlush cs = standsSince objectKinds objectFlushes cs
 
 -- "the count last loaded; a VFE keeps that count"
 unfoldable pub countLoaded : List Command → ℕ
@@ -89,8 +103,8 @@ stateAfter k h st =
       vfe = cond (eqb k 3) (st .commands) (st .vfe);
       curbe = cond (eqb k 3) (curbeSize h) (st .curbe);
       count = cond (eqb k 5) (loadCount h) (st .count);
-      standing = since (3 ∷ 4 ∷ 5 ∷ 7 ∷ []) (1 ∷ []) k (st .standing);
-      unflushed = since (7 ∷ []) (1 ∷ 6 ∷ []) k (st .unflushed);
+      standing = since mediaKinds mediaFlushes k (st .standing);
+      unflushed = since objectKinds objectFlushes k (st .unflushed);
       commands = st .commands + 1;
       objects = cond (eqb k 7) (st .objects + 1) (st .objects);
     }

@@ -3,8 +3,9 @@ use Prim.Native.Nat.{ℕ, zero, suc, _-_}
 use mathlib.Core.Bool.{cond}
 use mathlib.Core.List.{List, [], _∷_}
 use lib.Dec.{eqb}
+use Rattle.command.specs.Kinds.{inlineFrom}
 use Rattle.command.specs.Order.{Command}
-use Rattle.command.specs.Fields.{dword, threadField, urbEntries, gatewayBypass, entrySize, curbeSize, loadLength, loadAddress, loadCount, descriptorIndex, children, synchronised, usesScoreboard, indirectLength, indirectAddress, positionX, positionY, colour, scoreboardMask}
+use Rattle.command.specs.Fields.{dword, threadField, urbEntries, gatewayBypass, entrySize, curbeSize, loadLength, loadAddress, loadCount, descriptorIndex, children, synchronised, scoreboardUse, indirectLength, indirectAddress, positionX, positionY, colour, scoreboardMask}
 
 -- "VFE: thread field, entries, bypass, entry size, CURBE size, dwords 5, 6, 7"
 abbrev pub vfeFields : Command → List ℕ
@@ -20,18 +21,18 @@ vfeFields c =
     ∷ []
 
 -- "OBJECT: index, scoreboard use, children, synchronised, X, Y, colour, mask, inline count, indirect length, indirect address, record number
--- of the VFE in force, object number"; inline data stands "from dword 6"
+-- of the VFE in force, object number"
 abbrev pub objectFields : Command → List ℕ
 objectFields c =
     descriptorIndex (c .head)
-    ∷ usesScoreboard (c .head)
+    ∷ scoreboardUse (c .head)
     ∷ children (c .head)
     ∷ synchronised (c .head)
     ∷ positionX (c .head)
     ∷ positionY (c .head)
     ∷ colour (c .head)
     ∷ scoreboardMask (c .head)
-    ∷ (c .total - 6)
+    ∷ (c .total - inlineFrom)
     ∷ indirectLength (c .head)
     ∷ indirectAddress (c .head)
     ∷ c .vfe

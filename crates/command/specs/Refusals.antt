@@ -61,12 +61,13 @@ ownRows k h st =
     ∷ row 9 0 (eqb k 4 && ltb (32 * st .curbe) (loadLength h))
     ∷ []
 
--- the first row that holds decides
+-- rows 3 to 9; the first row that holds decides
+unfoldable pub judgeOf : ℕ → ℕ → List ℕ → State → Verdict
+judgeOf k left h st = firstRow Fault Passed (headerRows k (dword h 0) left ++ ownRows k h st)
+
+-- its halves, as the code asks them
 unfoldable pub headerVerdict : ℕ → ℕ → ℕ → Verdict
 headerVerdict k d left = firstRow Fault Passed (headerRows k d left)
 
 unfoldable pub ownVerdict : ℕ → List ℕ → State → Verdict
 ownVerdict k h st = firstRow Fault Passed (ownRows k h st)
-
-unfoldable pub judgeOf : ℕ → ℕ → List ℕ → State → Verdict
-judgeOf k left h st = firstRow Fault Passed (headerRows k (dword h 0) left ++ ownRows k h st)

@@ -2,12 +2,13 @@
 ghost use mathlib.Core.Path.{_≡_};
 ghost use mathlib.Core.List.{[], _∷_};
 ghost use Prim.Native.Nat.{_-_};
+ghost use Rattle.command.specs.Kinds.{inlineFrom};
 ghost use Rattle.command.specs.Order.{commandOf};
 ghost use Rattle.command.specs.Record.{recordOf, padded};
 use crate::State;
 
 fn inline_count(total: u32) -> u32
-    ensures { λ r. ⌜ r ≡ total - 6 ⌝ }
+    ensures { λ r. ⌜ r ≡ total - inlineFrom ⌝ }
 {
     if total < 6 {
         return 0;

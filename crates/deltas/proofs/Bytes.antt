@@ -6,7 +6,7 @@ use Prim.Native.Nat.{ℕ, suc, _+_, _-_, _*_, _/_, _%_, _^_, _<_, _≤_}
 use native.Mathlib.Nat.{le-refl, zero-div}
 use native.Mathlib.Omega.{arith}
 use lib.Bits.{bitAnd}
-use lib.Dec.{T, ltb, eqb}
+use lib.Dec.{ltb, eqb}
 use lib.IntN.{ℤ, pos, negsuc, subℕ}
 use lib.Pow.{shr-shr}
 use borrow.Author.Tests.{eq-eqb, ne-eqb, eqb-true, lt-ltb, ltb-true, ltb-false}
@@ -16,6 +16,7 @@ use mir.Facts.{toZ-ofZ}
 use Rattle.laws.specs.BitRanges.{bits, field}
 use Rattle.laws.specs.Find.{NoneBelow}
 use Rattle.laws.proofs.BitRanges.{taken}
+use Rattle.laws.proofs.Choices.{and-left, and-right, not-both}
 use Rattle.laws.proofs.Find.{none, none-next, found, find-at, find-before}
 use Rattle.deltas.specs.Deltas.{deltaOf, deltaDword, byteLow, deltaX, deltaY}
 use Rattle.deltas.specs.InPlay.{bitSet}
@@ -23,16 +24,9 @@ use Rattle.deltas.specs.Meets.{reaches, meetsAt}
 use Rattle.deltas.specs.Lowest.{leadsAt, lowestAt, deltaByte, halfTo, isByte, lowestByte}
 use Rattle.deltas.proofs.Nibbles.{half-small, x-fits, y-fits}
 
-clash : (t : Bool) → t ≡ true → t ≡ false → ⊥
-clash t p q = subst T (sym p ∙ q) tt
-
 unless : (t : Bool) → (t ≡ true → ⊥) → t ≡ false
 unless true n = absurd (n refl)
 unless false n = refl
-
-both : (a b : Bool) → a && b ≡ true → (a ≡ true) × (b ≡ true)
-both true b e = (refl, e)
-both false b e = absurd (clash false e refl)
 
 -- one axis
 module _ (x to : ℕ) (h : x < 2 ^ 32) where
@@ -45,7 +39,7 @@ module _ (x to : ℕ) (h : x < 2 ^ 32) where
   back m l e = go (ltb x (suc m)) refl
     where
       go : (t : Bool) → ltb x (suc m) ≡ t → 15 - m ≡ halfTo x to
-      go true p = let f : reaches x (negsuc m) to ≡ false = simp p in absurd (clash (reaches x (negsuc m) to) e f)
+      go true p = let f : reaches x (negsuc m) to ≡ false = simp p in absurd (not-both (reaches x (negsuc m) to) e f)
       go false p =
           let k : suc m ≤ x = ltb-false x (suc m) p in
           let f : eqb (x - suc m) to ≡ reaches x (negsuc m) to = simp p in
@@ -114,14 +108,13 @@ module _ (x y mask d6 d7 jx jy : ℕ) (hx : x < 2 ^ 32) (hy : y < 2 ^ 32) where
   leads-byte : (i : ℕ) → leadsAt x y mask d6 d7 jx jy i ≡ true → isByte mask d6 d7 byte i ≡ true
   unfolding leadsAt meetsAt isByte deltaX deltaY
   leads-byte i e =
-      let s = both (bitSet i mask) _ e in
-      let m = both (reaches x (deltaX d6 d7 i) jx) _ (s .1) in
-      let low = by-half x jx hx (lowHalf d6 d7 i) (low-small d6 d7 i) (m .0) in
-      let high = by-half y jy hy (highHalf d6 d7 i) (high-small d6 d7 i) (m .1) in
-      simp (s .0, eq-eqb (deltaByte d6 d7 i) byte (byte-halves d6 d7 i ∙ ap₂ (λ (a b : ℕ). 16 * a + b) high low))
+      let m = and-right (bitSet i mask) _ e in
+      let low = by-half x jx hx (lowHalf d6 d7 i) (low-small d6 d7 i) (and-left (reaches x (deltaX d6 d7 i) jx) _ m) in
+      let high = by-half y jy hy (highHalf d6 d7 i) (high-small d6 d7 i) (and-right (reaches x (deltaX d6 d7 i) jx) _ m) in
+      simp (and-left (bitSet i mask) _ e, eq-eqb (deltaByte d6 d7 i) byte (byte-halves d6 d7 i ∙ ap₂ (λ (a b : ℕ). 16 * a + b) high low))
 
   leads-not : (i : ℕ) → isByte mask d6 d7 byte i ≡ false → leadsAt x y mask d6 d7 jx jy i ≡ false
-  leads-not i e = unless (leadsAt x y mask d6 d7 jx jy i) (λ p. clash (isByte mask d6 d7 byte i) (leads-byte i p) e)
+  leads-not i e = unless (leadsAt x y mask d6 d7 jx jy i) (λ p. not-both (isByte mask d6 d7 byte i) (leads-byte i p) e)
 
   -- what `lowest_delta` shows: i is the lowest delta that is the byte, made of the halves u and v
   module _ (i u v : ℕ) (eu : u ≡ halfTo x jx) (ev : v ≡ halfTo y jy) (ei : i ≡ lowestByte mask d6 d7 (16 * v + u)) where
@@ -148,26 +141,25 @@ module _ (x y mask d6 d7 jx jy : ℕ) (hx : x < 2 ^ 32) (hy : y < 2 ^ 32) where
       here : i < 8
       here = omega (arith, n)
 
-      is-byte : (bitSet i mask ≡ true) × (eqb (deltaByte d6 d7 i) byte ≡ true)
+      is-byte : bitSet i mask && eqb (deltaByte d6 d7 i) byte ≡ true
       unfolding lowestByte isByte
       is-byte =
-          both (bitSet i mask) (eqb (deltaByte d6 d7 i) byte)
-          (subst (λ (k : ℕ). isByte mask d6 d7 byte k ≡ true) is-lowest (find-at (isByte mask d6 d7 byte) 8 (subst (λ (k : ℕ). k < 8) (sym is-lowest) here)))
+          subst (λ (k : ℕ). isByte mask d6 d7 byte k ≡ true) is-lowest (find-at (isByte mask d6 d7 byte) 8 (subst (λ (k : ℕ). k < 8) (sym is-lowest) here))
 
       pub lowest-found : b ≡ true → i ≡ lowestAt x y mask d6 d7 jx jy
       unfolding lowestAt leadsAt
-      lowest-found e = sym (found (leadsAt x y mask d6 d7 jx jy) 8 i here before (simp (is-byte .0, sym met ∙ e)))
+      lowest-found e = sym (found (leadsAt x y mask d6 d7 jx jy) 8 i here before (simp (and-left (bitSet i mask) _ is-byte, sym met ∙ e)))
 
       off : (j : ℕ) → leadsAt x y mask d6 d7 jx jy j ≡ true → b ≡ true
       unfolding leadsAt isByte
       off j e =
-          let s = both (bitSet j mask) _ (leads-byte j e) in
-          let q = eqb-true (deltaByte d6 d7 i) byte (is-byte .1) ∙ sym (eqb-true (deltaByte d6 d7 j) byte (s .1)) in
-          met ∙ meets-same d6 d7 x y jx jy i j q ∙ both (bitSet j mask) _ e .1
+          let s = and-right (bitSet j mask) _ (leads-byte j e) in
+          let q = eqb-true (deltaByte d6 d7 i) byte (and-right (bitSet i mask) _ is-byte) ∙ sym (eqb-true (deltaByte d6 d7 j) byte s) in
+          met ∙ meets-same d6 d7 x y jx jy i j q ∙ and-right (bitSet j mask) _ e
 
       pub lowest-off : b ≡ false → 8 ≡ lowestAt x y mask d6 d7 jx jy
       unfolding lowestAt
-      lowest-off e = sym (none (leadsAt x y mask d6 d7 jx jy) 8 8 (le-refl 8) (λ j h. unless (leadsAt x y mask d6 d7 jx jy j) (λ p. clash b (off j p) e)))
+      lowest-off e = sym (none (leadsAt x y mask d6 d7 jx jy) 8 8 (le-refl 8) (λ j h. unless (leadsAt x y mask d6 d7 jx jy j) (λ p. not-both b (off j p) e)))
 
 -- one bit, by shift and mask
 bit : (i m : ℕ) → field (bits i i) m ≡ bitAnd (m / 2 ^ i) 1

@@ -43,7 +43,7 @@ fn is_byte(mask: u32, d6: u32, d7: u32, byte: u32, i: u32) -> bool
     delta_byte(d6, d7, i) == byte
 }
 
-// The lowest delta of a mask that is a byte, 8 where none is. Most masks have few bits.
+// The lowest delta in the mask whose byte is the one given, 8 where none is. Most masks have few bits.
 fn lowest_byte(mask: u32, d6: u32, d7: u32, byte: u32) -> u32
     ensures { λ r. ⌜ (r ≡ lowestByte mask d6 d7 byte) × (r ≤ 8) ⌝ }
 {

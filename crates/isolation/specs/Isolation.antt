@@ -3,9 +3,8 @@
 -- words: `inline-wide` (every dword from 6 on of an OBJECT passed is inline data), `accepted-commands` (an accepted batch passes all its
 -- commands), `lands` and `some-byte` (every accepted forward lands on its 2^code bytes, one at least).
 use mathlib.Core.Path.{_≡_}
-use mathlib.Core.List.{List, _++_}
+use mathlib.Core.List.{List}
 use Prim.Native.Nat.{ℕ, _<_}
-use lib.ListN.{length, drop}
 use Rattle.words.specs.Dwords.{dwordsOf}
 use Rattle.batch.specs.Reading.{readingOf}
 use Rattle.batch.specs.Isolation.{Alike, BytesAlike}
@@ -13,7 +12,7 @@ use Rattle.batch.specs.Answers as batch
 use Rattle.scoreboard.specs.Answers as order
 use Rattle.gateway.specs.Isolation as recordings
 use Rattle.gateway.specs.Isolation.{Outside, Isolated}
-use Rattle.listing.specs.Listing.{textOf}
+use Rattle.listing.specs.Listing.{textOf, listedIn}
 
 -- "Pick one thread. Take any recording .. and a second that agrees with it but for the data bytes of forwards naming that thread as recipient.
 -- Each is replayed from closed gateways, over lent buffers that agree but for that thread's registers."
@@ -25,7 +24,7 @@ Recordings =
 -- "The batch check, the order check .. answer both alike, given the same run, capacity and lent buffers. Every record, state byte .. ends the
 -- same": r are the record words lent, and each list is the whole buffer.
 pub record Same (capacity : ℕ) (b b′ run r states : List ℕ) : Type 0 where
-  -- "that the second passes the same is proved, not assumed"
+  -- that the second passes the same is proved, not assumed
   pub passed : readingOf capacity b ≡ readingOf capacity b′
   pub answer : batch.answerOf capacity b r ≡ batch.answerOf capacity b′ r
   pub records : batch.recordsOf capacity b r ≡ batch.recordsOf capacity b′ r
@@ -45,7 +44,7 @@ pub record BytesSame (capacity : ℕ) (b b′ run r states : List ℕ) : Type 0 
 -- "For a program the claim is of the bytes made for printing from what it read": on input of any length, and the whole text buffer at exit
 pub record ListedSame (input input′ text : List ℕ) : Type 0 where
   pub bytes : textOf input ≡ textOf input′
-  pub buffer : textOf input ++ drop (length (textOf input)) text ≡ textOf input′ ++ drop (length (textOf input′)) text
+  pub buffer : listedIn input text ≡ listedIn input′ text
 
 -- "Now take two batches that differ only in inline data of objects passed before the reading stopped."
 pub record Batches : Type 0 where

@@ -1,1 +1,1 @@
-// No code: what every other crate cites, stated once.
+// No code: what several crates cite, stated once.

@@ -9,7 +9,7 @@ use Rattle.words.specs.Dwords.{dwordsOf}
 use Rattle.batch.specs.Reading.{Reading}
 use Rattle.batch.specs.Isolation.{BytesAlike}
 use Rattle.batch.proofs.Isolation.{alike-reading, bytes-alike}
-use Rattle.listing.specs.Listing.{refusedLine, markLine, readText, batchText, textOf}
+use Rattle.listing.specs.Listing.{refusedLine, markLine, readText, batchText, textOf, listedIn}
 
 module _ (b b′ : List ℕ) (h : BytesAlike 2048 b b′) where
   alike-batch : batchText (dwordsOf b) ≡ batchText (dwordsOf b′)
@@ -26,5 +26,5 @@ module _ (b b′ : List ℕ) (h : BytesAlike 2048 b b′) where
   pub alike-count : length (textOf b) ≡ length (textOf b′)
   alike-count = ap length alike-text
 
-  pub alike-buffer : (text : List ℕ) → textOf b ++ drop (length (textOf b)) text ≡ textOf b′ ++ drop (length (textOf b′)) text
+  pub alike-buffer : (text : List ℕ) → listedIn b text ≡ listedIn b′ text
   alike-buffer text = ap (λ (t : List ℕ). t ++ drop (length t) text) alike-text

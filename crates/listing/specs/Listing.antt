@@ -2,11 +2,12 @@
 use Prim.Native.Nat.{ℕ, zero, suc, _+_, _/_, _%_, min}
 use mathlib.Core.Bool.{cond}
 use mathlib.Core.List.{List, [], _∷_, _++_}
-use lib.Dec.{ltb, eqb}
-use lib.ListN.{length, getD}
+use lib.Dec.{ltb}
+use lib.ListN.{length, getD, drop}
 use Rattle.words.specs.Dwords.{dwordsOf}
 use Rattle.command.specs.Order.{Command}
 use Rattle.batch.specs.Reading.{Stop, ended, stopped, readingOf}
+use Rattle.batch.specs.Answers.{partDword, wholeDwords}
 
 -- a number's decimal digits, the most significant first: the last k of them
 unfoldable pub spell : ℕ → ℕ → List ℕ
@@ -36,7 +37,7 @@ names =
     ∷ (79 ∷ 66 ∷ 74 ∷ [])
     ∷ []
 
--- the last kind is 7
+-- a command passed is of kind 0 to 7: no other occurs
 unfoldable pub nameOf : ℕ → List ℕ
 nameOf kind = getD names (min kind 7) []
 
@@ -69,13 +70,17 @@ readText cs (stopped number place) = refusedLine number place
 unfoldable pub batchText : List ℕ → List ℕ
 batchText b = readText (readingOf 2048 b .passed) (readingOf 2048 b .stop)
 
--- 17: "not a multiple of 4 bytes .. (place: its whole dwords)"
+-- 17, of the input
 abbrev pub oddText : List ℕ → List ℕ
-oddText input = refusedLine 17 (length input / 4)
+oddText input = partDword refusedLine input
 
 -- "reads at most 4,096 bytes (more: 1) .. (that test precedes 17)"
 unfoldable pub textOf : List ℕ → List ℕ
 textOf input =
     markLine
     ++ cond (ltb 4096 (length input)) (refusedLine 1 0)
-    (cond (eqb (length input % 4) 0) (batchText (dwordsOf input)) (oddText input))
+    (wholeDwords refusedLine input (batchText (dwordsOf input)))
+
+-- the lent text buffer at exit: the text, then the buffer's bytes as they were
+abbrev pub listedIn : List ℕ → List ℕ → List ℕ
+listedIn input text = textOf input ++ drop (length (textOf input)) text

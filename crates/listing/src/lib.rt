@@ -1,11 +1,11 @@
 // The listing of a batch: from the bytes read to the bytes to print, in a text buffer that the caller lends.
 ghost use mathlib.Core.Path.{_≡_};
-ghost use mathlib.Core.List.{[], _∷_, _++_};
+ghost use mathlib.Core.List.{[], _∷_};
 ghost use Prim.Native.Nat.{_+_, _*_, _≤_, _<_, min};
 ghost use lib.ListN.{length, take, drop};
 ghost use Rattle.io.specs.Counts.{Counts};
 ghost use Rattle.words.specs.Dwords.{dwordsOf};
-ghost use Rattle.listing.specs.Listing.{numberOf, nameOf, lineOf, refusedLine, acceptedLine, oddText, batchText, textOf};
+ghost use Rattle.listing.specs.Listing.{numberOf, nameOf, lineOf, refusedLine, acceptedLine, oddText, batchText, textOf, listedIn};
 ghost use Rattle.listing.specs.Writing.{Wrote, recordLines};
 use batch::Scanned;
 use batch::decide;
@@ -139,7 +139,7 @@ fn outcome(text: &mut [u8], at: usize, input: &[u8]) -> usize
 
 // The text of an input of any length, and how many bytes it has: 47,161 at most. The rest of the buffer is as it was.
 pub fn list(input: &[u8], text: &mut [u8; 49152]) -> usize
-    ensures { λ r. ⌜ (now (text .exit) ≡ textOf (now (input .entry)) ++ drop (length (textOf (now (input .entry)))) (now (text .entry))) × (r ≡ length (textOf (now (input .entry)))) × Counts r (now (text .exit)) ⌝ }
+    ensures { λ r. ⌜ (now (text .exit) ≡ listedIn (now (input .entry)) (now (text .entry))) × (r ≡ length (textOf (now (input .entry)))) × Counts r (now (text .exit)) ⌝ }
 {
     let at = put(text, 0, b"MPL 1\n", 0, 6);
     if 4096 < input.len() {

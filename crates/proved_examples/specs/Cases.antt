@@ -11,7 +11,6 @@ use Rattle.scoreboard.specs.declared.Answer as orders
 use Rattle.scoreboard.specs.Answers as order
 use Rattle.event.specs.declared.Gateway.{Gateway}
 use Rattle.event.specs.Codes.{closed, opened}
-use Rattle.gateway.specs.declared.Barrier.{Barrier}
 use Rattle.gateway.specs.declared.Replayed.{Replayed}
 use Rattle.gateway.specs.Replay.{emptyBarrier, replayOf}
 

@@ -10,6 +10,7 @@ use Rattle.laws.proofs.Choices.{by-cond}
 use Rattle.laws.proofs.Tests.{both-left, both-right}
 use Rattle.words.specs.Dwords.{dwordsOf, putLe}
 use Rattle.command.specs.Order.{Command}
+use Rattle.command.proofs.Judged.{refusal}
 use Rattle.batch.specs.Vfes.{commandNumber}
 use Rattle.batch.specs.Reading.{readingOf}
 use Rattle.batch.specs.Answers.{recorded}
@@ -23,7 +24,7 @@ use Rattle.scoreboard.specs.Claims.{Claims, Claimed, BytesClaimed}
 use Rattle.scoreboard.proofs.Waits.{object-eight}
 use Rattle.scoreboard.proofs.Named.{bad-number, unknown, not-waiting, not-running, names-start, stalls, blocks}
 use Rattle.scoreboard.proofs.Runs.{ran-started}
-use Rattle.scoreboard.proofs.Numbers.{refusal, by-order, by-bytes-order}
+use Rattle.scoreboard.proofs.ByOrder.{by-order, by-bytes-order}
 use Rattle.scoreboard.proofs.Stops.{Stops, stops, ran-past, ran-long}
 use Rattle.scoreboard.proofs.Orders.{map-ordered, map-bytes-ordered}
 

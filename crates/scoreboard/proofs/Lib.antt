@@ -7,7 +7,7 @@ pub mod Spots
 pub mod Searches
 pub mod StartRows
 pub mod RunTurns
-pub mod Numbers
+pub mod ByOrder
 pub mod Stops
 pub mod RecordedObjects
 pub mod Orders

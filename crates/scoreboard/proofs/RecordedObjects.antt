@@ -65,7 +65,7 @@ module _ (all : List Command) (d : List ℕ) (held : (i f : ℕ) → i < length 
           word 7 (fields.positionX (c .head)) (omega arith) (simp e),
           word 8 (fields.positionY (c .head)) (omega arith) (simp e),
           word 9 (fields.colour (c .head)) (omega arith) (simp e),
-          word 4 (fields.usesScoreboard (c .head)) (omega arith) (simp e),
+          word 4 (fields.scoreboardUse (c .head)) (omega arith) (simp e),
           word 10 (fields.scoreboardMask (c .head)) (omega arith) (simp e),
           vfe-word 8 (dword (commandNumber all (c .vfe) .head) 5) (omega arith) (simp z),
           vfe-word 9 (dword (commandNumber all (c .vfe) .head) 6) (omega arith) (simp z),

@@ -1,12 +1,12 @@
 -- What the order check answers, and what it leaves in the lent record buffer and state bytes: document 01, "Who waits for whom".
-use Prim.Native.Nat.{ℕ, _/_, _%_}
+use Prim.Native.Nat.{ℕ, _/_}
 use mathlib.Core.Bool.{cond}
 use mathlib.Core.List.{List}
-use lib.Dec.{ltb, eqb}
+use lib.Dec.{ltb}
 use lib.ListN.{length, set}
 use Rattle.words.specs.Dwords.{dwordsOf, putLe, Buffer, putIn}
 use Rattle.batch.specs.Reading.{readingOf}
-use Rattle.batch.specs.Answers.{decided, recorded}
+use Rattle.batch.specs.Answers.{decided, recorded, wholeDwords}
 use Rattle.scoreboard.specs.declared.Answer.{Answer}
 use Rattle.scoreboard.specs.Objects.{Object, objectsOf}
 use Rattle.scoreboard.specs.Run.{Ran, ran}
@@ -26,13 +26,11 @@ module _ {A : Type 0} (refused : ℕ → ℕ → A) (went : Ran → A) where
   unfoldable pub ordered : ℕ → ℕ → List ℕ → List ℕ → List ℕ → A
   ordered capacity room b run states = decided refused (λ c d. begins (objectsIn capacity b) run states) capacity room b
 
-  -- The byte entry. 17: "batch, then run, not a multiple of 4 bytes; checked first (place: its whole dwords)".
+  -- the byte entry: 17 of "batch, then run", then as above
   unfoldable pub bytesOrdered : ℕ → ℕ → List ℕ → List ℕ → List ℕ → A
-  bytesOrdered capacity room b run states =
-      cond (eqb (length b % 4) 0) (cond (eqb (length run % 4) 0) (ordered capacity room (dwordsOf b) (dwordsOf run) states) (refused 17 (length run / 4)))
-      (refused 17 (length b / 4))
+  bytesOrdered capacity room b run states = wholeDwords refused b (wholeDwords refused run (ordered capacity room (dwordsOf b) (dwordsOf run) states))
 
--- The answer's numbers. Object and delta are 0 where the number names none.
+-- "An answer is every number returned." Object and delta are 0 where the number names none.
 abbrev pub refusedAnswer : ℕ → ℕ → Answer
 refusedAnswer number place = record { number = number; place = place; object = 0; delta = 0 }
 

@@ -1,4 +1,4 @@
--- The objects of a batch, as document 01, "Who waits for whom", speaks of them: no records and no dwords.
+-- The objects of a batch, as document 01, "Who waits for whom", speaks of them: an `Object` holds no record and no dword.
 use Prim.Native.Nat.{ℕ}
 use mathlib.Core.Bool.{Bool, cond}
 use mathlib.Core.List.{List, [], _∷_, map}
@@ -52,7 +52,7 @@ objectWith x y colour own mask d5 d6 d7 =
 -- the object of an OBJECT with own dwords h, under a VFE with own dwords v
 abbrev pub objectOf : List ℕ → List ℕ → Object
 objectOf h v =
-    objectWith (fields.positionX h) (fields.positionY h) (fields.colour h) (fields.usesScoreboard h) (fields.scoreboardMask h) (dword v 5) (dword v 6) (dword v 7)
+    objectWith (fields.positionX h) (fields.positionY h) (fields.colour h) (fields.scoreboardUse h) (fields.scoreboardMask h) (dword v 5) (dword v 6) (dword v 7)
 
 -- The objects of a batch: one for each OBJECT of the commands passed, each with its VFE, which the command names by its record number.
 -- "Numbering starts at 0": object k is the k-th of the list.

@@ -34,7 +34,7 @@ pub struct Candidate {
     pub d7: u32,
 }
 
-// An object, and a record at which it stands or before it.
+// An object, and a record at or before its own.
 pub struct Spot {
     pub object: usize,
     pub at: usize,

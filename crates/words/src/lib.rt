@@ -1,8 +1,8 @@
 // Dwords as the checks read and write them: lent as dwords, or as little-endian bytes.
 ghost use mathlib.Core.Path.{_≡_};
-ghost use Prim.Native.Nat.{_+_, _*_, _<_, _≤_, _^_};
+ghost use Prim.Native.Nat.{_+_, _*_, _<_, _≤_};
 ghost use lib.ListN.{length, getD, set};
-ghost use Rattle.words.specs.Dwords.{leAt, dwordsOf, dwordsIn, putLe, buffer, putIn};
+ghost use Rattle.words.specs.Dwords.{leAt, dwordsIn, putLe, buffer, putIn};
 
 pub fn wide(x: u8) -> u32
     ensures { λ r. ⌜ (r ≡ x) × (r < 256) ⌝ }
