@@ -135,6 +135,6 @@ module _ (rec registers counts outcomes : List ℕ) where
 abbrev pub Claims : Type 0
 Claims = (rec registers counts outcomes : List ℕ) → refusalOf rec (length registers) (length counts) (length outcomes) ≡ 0 → Claimed rec registers counts outcomes
 
--- The answer's number is that of the rows: 0 says that none refuses, and nothing else says so.
+-- The answer's number is what the rows give: 0 where they give 0, and nowhere else.
 abbrev pub Numbered : Type 0
 Numbered = (rec registers counts outcomes : List ℕ) → end rec registers counts outcomes .answer .number ≡ refusalOf rec (length registers) (length counts) (length outcomes)

@@ -20,7 +20,7 @@ use Rattle.scoreboard.specs.Objects.{Delta, Object, objectOf, objectsOf}
 use Rattle.scoreboard.specs.Run.{objectAt, verdictOf, Ran, begun, ran}
 use Rattle.scoreboard.specs.Waits.{Stalls, Blocks}
 use Rattle.scoreboard.specs.Answers.{objectsIn, ordered, bytesOrdered, refusedAnswer, ranAnswer, answerOf, recordsOf, statesOf, bytesAnswerOf, bytesRecordsOf, bytesStatesOf}
-use Rattle.scoreboard.specs.Claims.{Claims, Claimed, BytesClaimed}
+use Rattle.scoreboard.specs.Claims.{Claims, Claimed, BytesClaimed, AllClaimed}
 use Rattle.scoreboard.proofs.Waits.{object-eight}
 use Rattle.scoreboard.proofs.Named.{bad-number, unknown, not-waiting, not-running, names-start, stalls, blocks}
 use Rattle.scoreboard.proofs.Runs.{ran-started}
@@ -194,3 +194,6 @@ module _ (capacity : ℕ) (batch run records states : List ℕ) where
       (map-bytes-ordered (λ (g : Given). g .states) off on capacity (length records / 4) batch run states)
       (by-bytes-order off on (Of capacity b e records states) (claims-batch capacity b e records states) capacity (length records / 4) batch run states
       (claims-short capacity b e records states) (claims-went capacity b e records states filled))
+
+pub all-claimed : AllClaimed
+all-claimed capacity batch run records states = (claimed capacity batch run records states, bytes-claimed capacity batch run records states)

@@ -82,3 +82,7 @@ abbrev pub BytesClaimed : ℕ → List ℕ → List ℕ → List ℕ → List �
 BytesClaimed capacity batch run records states =
     Claims capacity (dwordsOf batch) (dwordsOf run) records states (bytesAnswerOf capacity batch run records states) (bytesRecordsOf capacity batch run records states)
     (bytesStatesOf capacity batch run records states)
+
+-- every order check, over dwords and over bytes, whatever is lent
+abbrev pub AllClaimed : Type 0
+AllClaimed = (capacity : ℕ) (batch run records states : List ℕ) → Claimed capacity batch run records states × BytesClaimed capacity batch run records states
