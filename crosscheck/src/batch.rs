@@ -187,11 +187,18 @@ fn read<W: Word>(
         let header = first.get();
         commands += 1;
         rest = match header >> 16 {
-            OBJECT => {
+            // A picture's OBJECTs are all of one length: while the header stays the same,
+            // where the next one begins is known before it is read.
+            OBJECT => loop {
+                let place = batch.len() - rest.len();
                 let next = object(rest, header, place, &mut state)?;
                 passed(place + OBJECT_FIXED..batch.len() - next.len());
-                next
-            }
+                match next.first() {
+                    Some(first) if first.get() == header => rest = next,
+                    _ => break next,
+                }
+                commands += 1;
+            },
             VFE => vfe(rest, header, place, &mut state, capacity)?,
             CURBE => curbe(rest, header, place, &mut state)?,
             DESCRIPTOR => descriptor(rest, header, place, &mut state)?,
@@ -203,7 +210,12 @@ fn read<W: Word>(
             }
             // Kinds 0 to 2 match as a whole dword.
             _ => match header {
-                NOOP => next,
+                // They come in stretches, to pad.
+                NOOP => {
+                    let more = next.iter().take_while(|word| word.get() == NOOP).count();
+                    commands += more;
+                    &next[more..]
+                }
                 FLUSH => {
                     state.in_use = false;
                     state.objects_stand = false;
@@ -373,38 +385,28 @@ fn whole<W: Word, const N: usize>(command: &[W]) -> &[W; N] {
 
 /// Second pass: fills one record per command of a batch that `judge` accepted.
 pub(crate) fn decode<W: Word>(batch: &[W], records: &mut [[W; RECORD]]) {
+    let commands = records.len();
+    let mut records = records.iter_mut();
     let mut rest = batch;
     let mut vfe = 0;
     let mut objects = 0;
-    for (number, record) in records.iter_mut().enumerate() {
+    while let Some(mut record) = records.next() {
         let place = (batch.len() - rest.len()) as u32;
         let header = rest[0].get();
         let total = match header >> 16 {
-            OBJECT => {
-                let inline = (header & 0xffff) - 4;
-                let [_, w1, w2, w3, w4, w5] = whole::<W, OBJECT_FIXED>(rest).map(W::get);
-                *record = [
-                    7,
-                    place,
-                    inline + 6,
-                    w1 & 0x3f,
-                    w2 >> 21 & 1,
-                    w2 >> 31,
-                    w2 >> 24 & 1,
-                    w4 & 0x1ff,
-                    w4 >> 16 & 0x1ff,
-                    w5 >> 16 & 0xf,
-                    w5 & 0xff,
-                    inline,
-                    w2 & 0x1_ffff,
-                    w3,
-                    vfe,
-                    objects,
-                ]
-                .map(W::put);
+            // As in the first pass, while the header stays the same.
+            OBJECT => loop {
+                let place = (batch.len() - rest.len()) as u32;
+                let total = length_field(header) + 2;
+                let (command, next) = rest.split_at(total);
+                *record = object_record(command, place, vfe, objects);
                 objects += 1;
-                inline as usize + 6
-            }
+                match next.first() {
+                    Some(first) if first.get() == header => rest = next,
+                    _ => break total,
+                }
+                record = records.next().expect("a record for each command");
+            },
             VFE => {
                 let [_, _, w2, _, w4, w5, w6, w7] = whole::<W, 8>(rest).map(W::get);
                 let fields = [
@@ -417,32 +419,40 @@ pub(crate) fn decode<W: Word>(batch: &[W], records: &mut [[W; RECORD]]) {
                     w6,
                     w7,
                 ];
-                *record = padded(3, place, 8, fields);
-                vfe = number as u32;
+                fill(record, [3, place, 8], fields);
+                vfe = (commands - records.len() - 1) as u32;
                 8
             }
             CURBE => {
                 let [_, _, w2, w3] = whole::<W, 4>(rest).map(W::get);
-                *record = padded(4, place, 4, [w2 & 0x1_ffff, w3]);
+                fill(record, [4, place, 4], [w2 & 0x1_ffff, w3]);
                 4
             }
             DESCRIPTOR => {
                 let [_, _, w2, w3] = whole::<W, 4>(rest).map(W::get);
-                *record = padded(5, place, 4, [(w2 & 0x1_ffff) / 32, w3]);
+                fill(record, [5, place, 4], [(w2 & 0x1_ffff) / 32, w3]);
                 4
             }
             STATE_FLUSH => {
                 let [_, w1] = whole::<W, 2>(rest).map(W::get);
-                *record = padded(6, place, 2, [w1]);
+                fill(record, [6, place, 2], [w1]);
                 2
             }
             _ => {
-                let kind = match header {
-                    NOOP => 0,
-                    FLUSH => 1,
-                    _ => 2,
-                };
-                *record = padded(kind, place, 1, []);
+                match header {
+                    NOOP => fill(record, [0, place, 1], []),
+                    FLUSH => fill(record, [1, place, 1], []),
+                    _ => fill(record, [2, place, 1], []),
+                }
+                while header == NOOP && rest[1].get() == NOOP {
+                    rest = &rest[1..];
+                    let place = (batch.len() - rest.len()) as u32;
+                    fill(
+                        records.next().expect("a record for each command"),
+                        [0, place, 1],
+                        [],
+                    );
+                }
                 1
             }
         };
@@ -450,17 +460,35 @@ pub(crate) fn decode<W: Word>(batch: &[W], records: &mut [[W; RECORD]]) {
     }
 }
 
-/// Kind, place, total, the fields, then zeros.
-fn padded<W: Word, const N: usize>(
-    kind: u32,
-    place: u32,
-    total: u32,
-    fields: [u32; N],
-) -> [W; RECORD] {
-    let mut record = [0; RECORD];
-    record[..3].copy_from_slice(&[kind, place, total]);
-    record[3..3 + N].copy_from_slice(&fields);
-    record.map(W::put)
+fn object_record<W: Word>(command: &[W], place: u32, vfe: u32, number: u32) -> [W; RECORD] {
+    let [header, w1, w2, w3, w4, w5] = whole::<W, OBJECT_FIXED>(command).map(W::get);
+    let inline = (header & 0xffff) - 4;
+    [
+        7,
+        place,
+        inline + 6,
+        w1 & 0x3f,
+        w2 >> 21 & 1,
+        w2 >> 31,
+        w2 >> 24 & 1,
+        w4 & 0x1ff,
+        w4 >> 16 & 0x1ff,
+        w5 >> 16 & 0xf,
+        w5 & 0xff,
+        inline,
+        w2 & 0x1_ffff,
+        w3,
+        vfe,
+        number,
+    ]
+    .map(W::put)
+}
+
+/// Kind, place and total, the fields, then zeros.
+fn fill<W: Word, const N: usize>(record: &mut [W; RECORD], start: [u32; 3], fields: [u32; N]) {
+    record[..3].copy_from_slice(&start.map(W::put));
+    record[3..3 + N].copy_from_slice(&fields.map(W::put));
+    record[3 + N..].fill(W::put(0));
 }
 
 #[cfg(test)]

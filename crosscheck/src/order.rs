@@ -2,10 +2,13 @@
 //!
 //! Nothing is allocated. States only grow, so two cursors over them do most of
 //! the work: no object below the first one waits to start, every object below
-//! the second is finished. A start looks only at the unfinished objects between
-//! the second cursor and itself, each one once.
+//! the second is finished. A start without a delta in play looks at nobody; any
+//! other passes over the records between the second cursor and itself, and looks
+//! closer at those within reach of a delta. A stretch of finished objects is
+//! crossed as a whole.
 
 use crate::batch::{self, Refusal, Word, RECORD};
+use std::ops::Range;
 
 /// What an entry answers. On 0 the place is the event count, from 20 on the
 /// position in the run; object and delta are 0 where the number names none.
@@ -127,6 +130,8 @@ fn check_words<W: Word>(
         states,
         waiting: 0,
         unfinished: Spot::default(),
+        crossed: 0..0,
+        last: Spot::default(),
     };
     for (position, event) in run.iter().enumerate() {
         if let Err(fault) = board.event(event.get()) {
@@ -151,11 +156,23 @@ fn refuse<T>(number: u64) -> Result<T, Fault> {
     })
 }
 
+/// Records that are looked at in one go, those of finished objects among them.
+const BLOCK: usize = 16;
+
 /// An object and a record at or before the one that holds it.
 #[derive(Clone, Copy, Default)]
 struct Spot {
     object: usize,
     record: usize,
+}
+
+impl Spot {
+    /// To a later object. Every object between takes a record, so its own stands at
+    /// least as far off as its number.
+    fn advance(&mut self, object: usize) {
+        self.record += object - self.object;
+        self.object = object;
+    }
 }
 
 struct Board<'a, W> {
@@ -165,9 +182,13 @@ struct Board<'a, W> {
     waiting: usize,
     /// Every object below this one is finished.
     unfinished: Spot,
+    /// The stretch of records crossed last: none holds an unfinished object.
+    crossed: Range<usize>,
+    /// The object that tried to start last.
+    last: Spot,
 }
 
-impl<W: Word> Board<'_, W> {
+impl<'a, W: Word> Board<'a, W> {
     fn event(&mut self, event: u32) -> Result<(), Fault> {
         let object = (event >> 1) as usize;
         let finish = event & 1 == 1;
@@ -185,10 +206,12 @@ impl<W: Word> Board<'_, W> {
     /// Rules 24 and 25 for an object in state 0. It is itself unfinished, so no
     /// search below goes past it.
     fn may_start(&mut self, object: usize) -> Result<(), Fault> {
-        let first = self.first_from(self.unfinished.object, |state| state != FINISHED);
-        self.unfinished = self.walk(self.unfinished, first);
-        let own = self.walk(self.unfinished, object);
-        let own = &self.records[own.record];
+        let near = match self.last.object <= object {
+            true => self.last,
+            false => self.unfinished,
+        };
+        self.last = self.walk(near, object);
+        let own = &self.records[self.last.record];
         let vfe = &self.records[own[VFE_RECORD].get() as usize];
         let dword_5 = vfe[VFE_DWORD_5].get();
         if !uses_scoreboard(own[OWN_USE].get(), dword_5) {
@@ -204,54 +227,60 @@ impl<W: Word> Board<'_, W> {
                 });
             }
         }
-        let waiter = Waiter {
-            x: own[X].get(),
-            y: own[Y].get(),
-            colour: own[COLOUR].get(),
-            mask: (dword_5 & own[MASK].get()) as u8,
-            deltas: u64::from(vfe[VFE_DWORD_6].get()) | u64::from(vfe[VFE_DWORD_7].get()) << 32,
-        };
-        match waiter.mask {
-            0 => Ok(()),
-            _ => self.may_pass(&waiter, object),
+        let mask = (dword_5 & own[MASK].get()) as u8;
+        if mask == 0 {
+            return Ok(());
+        }
+        let first = self.first_from(self.unfinished.object, |state| state != FINISHED);
+        if first == object {
+            self.unfinished = self.last;
+            return Ok(());
+        }
+        self.unfinished = self.walk(self.unfinished, first);
+        let deltas = u64::from(vfe[VFE_DWORD_6].get()) | u64::from(vfe[VFE_DWORD_7].get()) << 32;
+        let waiter = Waiter::new(own, mask, deltas);
+        match self.first_awaited(&waiter, self.last.record) {
+            None => Ok(()),
+            Some(record) => Err(Fault {
+                number: 25,
+                object: record[NUMBER].get() as usize,
+                delta: waiter.at_delta(record).expect("an object at a delta"),
+            }),
         }
     }
 
-    /// Rule 25: nobody that the object waits for stands before it.
-    fn may_pass(&self, waiter: &Waiter, object: usize) -> Result<(), Fault> {
-        let mut other = self.unfinished;
-        while other.object < object {
-            if let Some(delta) = self.waits_for(waiter, other.record) {
-                return Err(Fault {
-                    number: 25,
-                    object: other.object,
-                    delta,
-                });
+    /// The record of the first object that the one in record `own` waits for.
+    #[inline(never)]
+    fn first_awaited(&mut self, waiter: &Waiter, own: usize) -> Option<&'a [W; RECORD]> {
+        let mut from = self.unfinished.record;
+        loop {
+            let until = own.min(from + BLOCK);
+            let mut at_deltas = self.records[from..until]
+                .iter()
+                .filter(|record| waiter.at_delta(record).is_some());
+            if let Some(awaited) = at_deltas.find(|record| self.is_awaited(waiter, record)) {
+                return Some(awaited);
             }
-            other = self.walk(other, self.unfinished_from(other.object + 1));
+            if until == own {
+                return None;
+            }
+            from = match self.state_of(&self.records[until]) {
+                FINISHED => self.past_finished(until),
+                _ => until,
+            };
         }
-        Ok(())
     }
 
-    /// The lowest delta in play at the unfinished object in `record`, where it
-    /// uses a scoreboard and the colours agree.
-    fn waits_for(&self, waiter: &Waiter, record: usize) -> Option<usize> {
-        let other = &self.records[record];
-        // As whole numbers: differences from -8 to 7, so that they are one delta's.
-        let right = other[X].get().wrapping_sub(waiter.x);
-        let down = other[Y].get().wrapping_sub(waiter.y);
-        if right.wrapping_add(8) | down.wrapping_add(8) > 15 {
-            return None;
+    /// Whether a record has an object that is unfinished and uses a scoreboard, and whose
+    /// colour is the waiter's. Kept out of the way of the search.
+    #[inline(never)]
+    fn is_awaited(&self, waiter: &Waiter, record: &[W; RECORD]) -> bool {
+        if record[KIND].get() != 7 || record[COLOUR].get() != waiter.colour {
+            return false;
         }
-        if other[COLOUR].get() != waiter.colour {
-            return None;
-        }
-        let vfe = &self.records[other[VFE_RECORD].get() as usize];
-        if !uses_scoreboard(other[OWN_USE].get(), vfe[VFE_DWORD_5].get()) {
-            return None;
-        }
-        let delta = (down << 4 & 0xf0 | right & 0xf) as u8;
-        (0..8).find(|&at| waiter.mask >> at & 1 == 1 && (waiter.deltas >> (8 * at)) as u8 == delta)
+        let vfe = &self.records[record[VFE_RECORD].get() as usize];
+        uses_scoreboard(record[OWN_USE].get(), vfe[VFE_DWORD_5].get())
+            && self.state_of(record) != FINISHED
     }
 
     /// The first object from `from` on in a state sought; one must exist. Step by
@@ -262,33 +291,49 @@ impl<W: Word> Board<'_, W> {
         from + past.expect("an object in a state sought")
     }
 
-    /// The first unfinished object from `from` on; one must exist.
-    fn unfinished_from(&self, from: usize) -> usize {
-        match self.states[from] {
-            FINISHED => self.past_finished(from),
-            _ => from,
+    /// The state of a record's object; a record without one is as good as finished.
+    fn state_of(&self, record: &[W; RECORD]) -> u8 {
+        match record[KIND].get() {
+            7 => self.states[record[NUMBER].get() as usize],
+            _ => FINISHED,
         }
     }
 
-    /// The same over a stretch of finished ones, sixteen at a time: every start may
-    /// have to cross it.
+    /// The first record with an unfinished object from this one on; one must exist. Every
+    /// start may have to cross the same stretch, so it goes on where the last one ended.
     #[inline(never)]
-    fn past_finished(&self, from: usize) -> usize {
-        let rest = &self.states[from..];
-        let chunks = rest.as_chunks().0.iter();
-        let whole = 16 * chunks.take_while(|&&chunk| chunk == [FINISHED; 16]).count();
-        self.first_from(from + whole, |state| state != FINISHED)
+    fn past_finished(&mut self, record: usize) -> usize {
+        if self.crossed.start != record {
+            self.crossed = record..record;
+        }
+        loop {
+            let record = &self.records[self.crossed.end];
+            if self.state_of(record) != FINISHED {
+                return self.crossed.end;
+            }
+            self.crossed.end += match record[KIND].get() {
+                7 => self.finished_from(record[NUMBER].get() as usize),
+                _ => 1,
+            };
+        }
     }
 
-    /// Goes from one object to a later one, or stays. Every object between takes
-    /// a record, so the object's own stands at least as far off as its number.
-    fn walk(&self, from: Spot, object: usize) -> Spot {
-        let mut record = from.record + (object - from.object);
+    /// How many objects from a finished one on are finished too, sixteen at a time: at
+    /// least 1. Each has a record.
+    fn finished_from(&self, object: usize) -> usize {
+        let chunks = self.states[object..].as_chunks().0.iter();
+        let whole = chunks.take_while(|&&chunk| chunk == [FINISHED; 16]);
+        (16 * whole.count()).max(1)
+    }
+
+    /// Goes from one object to a later one, or stays, and finds its own record.
+    fn walk(&self, mut spot: Spot, object: usize) -> Spot {
+        spot.advance(object);
         loop {
-            let here = &self.records[record];
-            record += match here[KIND].get() {
+            let here = &self.records[spot.record];
+            spot.record += match here[KIND].get() {
                 7 => match object - here[NUMBER].get() as usize {
-                    0 => return Spot { object, record },
+                    0 => return spot,
                     short => short,
                 },
                 _ => 1,
@@ -299,13 +344,55 @@ impl<W: Word> Board<'_, W> {
 
 /// The object that is to start: where it stands, and its deltas in play.
 struct Waiter {
-    x: u32,
-    y: u32,
+    /// Where delta (-8, -8) leads, X in the low half, Y in the high.
+    corner: u64,
     colour: u32,
-    mask: u8,
     /// A byte per delta, X in its low half, Y in its high.
     deltas: u64,
+    /// The high bit of a delta's byte where it is in play.
+    in_play: u64,
 }
+
+impl Waiter {
+    fn new<W: Word>(own: &[W; RECORD], mask: u8, deltas: u64) -> Self {
+        // Bit n of the mask alone in byte n.
+        let bits = (u64::from(mask) * EACH_BYTE) & 0x8040_2010_0804_0201;
+        Waiter {
+            corner: place(own).wrapping_sub(8 << 32 | 8),
+            colour: own[COLOUR].get(),
+            deltas,
+            in_play: (bits + !HIGH_BITS) & HIGH_BITS,
+        }
+    }
+
+    /// The lowest delta in play at which the object of a record stands. A record of
+    /// another kind may seem to stand at one.
+    fn at_delta<W: Word>(&self, record: &[W; RECORD]) -> Option<usize> {
+        // As whole numbers: from 0 to 15 both ways, or no delta reaches it. Where X is
+        // less, its half shows that, whatever it borrows from the other.
+        let off = place(record).wrapping_sub(self.corner);
+        if off & !(15 << 32 | 15) != 0 {
+            return None;
+        }
+        let delta = (off >> 28 | off) & 0xff ^ 0x88;
+        let unequal = self.deltas ^ (delta * EACH_BYTE);
+        // The high bit of each byte that is 0: no carry leaves a byte.
+        let equal = !(((unequal & !HIGH_BITS) + !HIGH_BITS) | unequal);
+        match equal & self.in_play {
+            0 => None,
+            found => Some(found.trailing_zeros() as usize / 8),
+        }
+    }
+}
+
+/// X in the low half, Y in the high.
+fn place<W: Word>(record: &[W; RECORD]) -> u64 {
+    u64::from(record[X].get()) | u64::from(record[Y].get()) << 32
+}
+
+/// A one in each byte, and the high bit of each.
+const EACH_BYTE: u64 = u64::MAX / 255;
+const HIGH_BITS: u64 = EACH_BYTE << 7;
 
 #[cfg(test)]
 mod tests;

@@ -1,7 +1,8 @@
 //! The gateway replay: section "The gateway recording" of document 01.
 //!
 //! One pass over the recording; nothing is allocated, and of an event only a
-//! forward's own data is copied.
+//! forward's own data is copied. Counts are only written, so they are added up
+//! beside the events and handed over at the end.
 
 /// Bytes of a recording before the group bytes.
 pub const HEADER: usize = 10;
@@ -67,17 +68,20 @@ pub fn replay(
             }
         }
     };
-    counts.fill(0);
     let mut desk = Desk {
         bypass: tape.bypass,
         groups: tape.groups,
         members: tape.members(),
         registers: registers.as_chunks_mut().0,
-        counts: counts.as_chunks_mut().0,
+        notified: [[0; 4]; 16],
+        released: [0; 16],
         end: Replayed::default(),
     };
     for (event, outcome) in tape.events.iter().zip(outcomes) {
         *outcome = desk.step(event);
+    }
+    for (thread, counts) in counts.as_chunks_mut().0.iter_mut().enumerate() {
+        *counts = desk.counts(thread);
     }
     desk.end
 }
@@ -172,18 +176,28 @@ impl<'a> Tape<'a> {
     }
 }
 
-/// What the events work on. Registers and counts have an element per thread.
+/// What the events work on. Registers have an element per thread.
 struct Desk<'a> {
     bypass: bool,
     groups: [u8; 16],
     members: [u32; 16],
     registers: &'a mut [[u8; REGISTERS]],
-    /// N0 and N2.
-    counts: &'a mut [[u32; 2]],
+    /// Accepted forwards, by recipient and notify.
+    notified: [[u32; 4]; 16],
+    /// Releases of each barrier.
+    released: [u32; 16],
     end: Replayed,
 }
 
 impl Desk<'_> {
+    /// N0 and N2 of a thread.
+    fn counts(&self, thread: usize) -> [u32; 2] {
+        let group = usize::from(self.groups[thread]);
+        let released = self.released.get(group).copied().unwrap_or(0);
+        let [_, n0, n2, _] = self.notified[thread];
+        [n0 + released, n2]
+    }
+
     /// One event; gives its outcome.
     fn step(&mut self, event: &[u8; EVENT]) -> u8 {
         let [kind, sender, flags, ack_register, ..] = *event;
@@ -276,18 +290,9 @@ impl Desk<'_> {
         if offset + (1 << code) > window {
             return 37;
         }
-        let target = &mut registers[base + offset..];
-        match code {
-            0 => write::<1>(target, event),
-            1 => write::<2>(target, event),
-            2 => write::<4>(target, event),
-            3 => write::<8>(target, event),
-            4 => write::<16>(target, event),
-            _ => write::<32>(target, event),
-        }
-        let counts = &mut self.counts[recipient];
-        counts[0] += u32::from(notify == 1);
-        counts[1] += u32::from(notify == 2);
+        let (_, data) = event.split_last_chunk().expect("an event's data");
+        write(registers, base + offset, code, data);
+        self.notified[recipient][usize::from(notify)] += 1;
         0
     }
 
@@ -303,9 +308,7 @@ impl Desk<'_> {
         barrier.waiting |= 1 << sender;
         if barrier.waiting == members {
             barrier.waiting = 0;
-            for (thread, counts) in self.counts.iter_mut().enumerate() {
-                counts[0] += members >> thread & 1;
-            }
+            self.released[group] += 1;
         }
         0
     }
@@ -321,10 +324,37 @@ impl Desk<'_> {
     }
 }
 
-/// The first `N` data bytes of an event, in one move of a known size.
-fn write<const N: usize>(target: &mut [u8], event: &[u8; EVENT]) {
-    target[..N].copy_from_slice(&event[16..16 + N]);
+/// The first 2^code data bytes to a thread's registers from a byte on, where they fit.
+/// The length is no branch: bytes past it are written as they were.
+fn write(registers: &mut [u8; REGISTERS], at: usize, code: u8, data: &[u8; 32]) {
+    let mask = &MASKS[usize::from(code)];
+    if let Some(target) = registers[at..].first_chunk_mut::<32>() {
+        let (old, new) = (target.as_chunks_mut::<8>().0, data.as_chunks::<8>().0);
+        for ((old, new), mask) in old.iter_mut().zip(new).zip(mask) {
+            let kept = u64::from_le_bytes(*old) & !mask;
+            *old = (kept | u64::from_le_bytes(*new) & mask).to_le_bytes();
+        }
+        return;
+    }
+    // Fewer than 32 bytes are left, so it is 16 at most: these as one number.
+    let start = at.min(REGISTERS - 16);
+    let shift = 8 * (at - start);
+    let mask = (u128::from(mask[0]) | u128::from(mask[1]) << 64) << shift;
+    let target: &mut [u8; 16] = registers[start..].first_chunk_mut().expect("16 bytes");
+    let kept = u128::from_le_bytes(*target) & !mask;
+    let new = u128::from_le_bytes(*data.first_chunk().expect("16 bytes")) << shift;
+    *target = (kept | new & mask).to_le_bytes();
 }
+
+/// The first 2^code bytes of 32, by code.
+const MASKS: [[u64; 4]; 6] = [
+    [0xff, 0, 0, 0],
+    [0xffff, 0, 0, 0],
+    [0xffff_ffff, 0, 0, 0],
+    [u64::MAX, 0, 0, 0],
+    [u64::MAX, u64::MAX, 0, 0],
+    [u64::MAX; 4],
+];
 
 #[cfg(test)]
 mod tests;

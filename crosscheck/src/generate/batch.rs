@@ -277,6 +277,12 @@ pub(super) fn flat(commands: &[Command]) -> Vec<u32> {
         .collect()
 }
 
+/// A valid batch of exactly so many dwords, of all kinds, that asks for at most
+/// `most_rows`.
+pub fn mixed(dwords: usize, most_rows: u32) -> Vec<u32> {
+    flat(&Draft::valid(&mut Random::new(3), Mix::All, dwords, most_rows).commands)
+}
+
 /// A capacity on either side of `rows`, mostly enough.
 fn capacity(random: &mut Random, rows: u32) -> u32 {
     match random.below(16) {

@@ -3,11 +3,12 @@
 
 use super::{batch, bytes};
 use crate::batch::{LIMIT, RECORD};
+use crate::order::{RUNNING, WAITING};
 use crate::random::Random;
 
 mod scene;
 
-pub use scene::{picture, spread, Layout, Object, Scene, Vfe};
+pub use scene::{field, field_with_gaps, picture, Layout, Object, Scene, Vfe};
 use scene::{Follower, Habit};
 
 /// What is lent to both entries.
@@ -51,7 +52,11 @@ pub fn random_case(random: &mut Random) -> Case {
             let case = broken_picture(random);
             lend(random, case)
         }
-        1..=1699 => {
+        1..=5 => {
+            let (scene, run) = long_run(random);
+            lend(random, Case::new(&scene, run))
+        }
+        6..=1699 => {
             let scene = any_scene(random);
             let run = any_run(random, &scene);
             lend(random, Case::new(&scene, run))
@@ -143,6 +148,53 @@ fn any_run(random: &mut Random, scene: &Scene) -> Vec<u32> {
         }
     }
     follower.run
+}
+
+/// Many objects, of which some run on while later ones come and go, so that starts look
+/// past long stretches of finished ones and of other commands; at times a bad event at
+/// the end.
+fn long_run(random: &mut Random) -> (Scene, Vec<u32>) {
+    let objects = random.between(40, 300);
+    let side = random.pick(&[6, 40, 500]);
+    let mut scene = Scene::default();
+    let vfe = any_vfe(random);
+    scene.vfe(random, vfe);
+    for _ in 0..objects {
+        for _ in 0..random.pick(&[0, 0, 0, 1, 20]) {
+            scene.filler(random);
+        }
+        let (x, y) = (random.below(side) as i32, random.below(side) as i32);
+        scene.object(random, block(x, y), 0);
+    }
+    // Every so many objects, one never finishes.
+    let slow = random.between(2, 60);
+    let mut states = vec![WAITING; objects];
+    let mut run = Vec::new();
+    let mut first = 0;
+    for _ in 0..6 * objects {
+        while first < objects && states[first] != WAITING {
+            first += 1;
+        }
+        // About where the run has come to.
+        let object = (first + random.below(12))
+            .saturating_sub(6)
+            .min(objects - 1);
+        let runs = states[object] == RUNNING;
+        let event = 2 * object as u32 + u32::from(runs);
+        match scene.refusal(&states, event) {
+            None if runs && object.is_multiple_of(slow) => {}
+            None => {
+                states[object] += 1;
+                run.push(event);
+            }
+            Some(_) if random.one_in(200) => {
+                run.push(event);
+                break;
+            }
+            Some(_) => {}
+        }
+    }
+    (scene, run)
 }
 
 /// Events that may or may not hit an object.

@@ -5,6 +5,7 @@ use crate::random::Random;
 use crate::replay::{EVENT, HEADER, NO_GROUP, REGISTER, REGISTERS};
 
 mod event;
+pub mod kinds;
 
 use event::{Event, END_OF_THREAD};
 

@@ -335,3 +335,20 @@ fn counts_add_up() {
         check(&random_case(&mut Random::for_case(5, index)));
     }
 }
+
+/// Every length from every place, the last bytes of the registers too.
+#[test]
+fn a_write_is_a_copy() {
+    let mut random = Random::new(8);
+    let old: [u8; REGISTERS] = random.bytes(REGISTERS).try_into().unwrap();
+    let data: [u8; 32] = random.bytes(32).try_into().unwrap();
+    for code in 0..6 {
+        let length = 1 << code;
+        for at in 0..=REGISTERS - length {
+            let (mut expected, mut registers) = (old, old);
+            expected[at..at + length].copy_from_slice(&data[..length]);
+            write(&mut registers, at, code, &data);
+            assert!(registers == expected, "code {code} at {at}");
+        }
+    }
+}

@@ -1,73 +1,174 @@
-//! The batch check: time per dword. Buffers are not cleared between calls: each
-//! call overwrites every record that it fills.
+//! The batch check, by kind of command: time per dword. Buffers are not cleared between
+//! calls: each call overwrites every record that it fills.
 
-use crate::table::{self, Input};
-use crate::timing::{from_line, LINE};
-use crosscheck::batch::{self, Answer, CURBE, DESCRIPTOR, END, NOOP, OBJECT, RECORD, VFE};
+use crate::limit::{self, Plain};
+use crate::table::{Input, Shape, Tables};
+use crate::timing::{Lent, Side};
+use crosscheck::batch::{
+    self, Answer, CURBE, DESCRIPTOR, END, FLUSH, NOOP, OBJECT, RECORD, STATE_FLUSH, VFE,
+};
 use crosscheck::ffi;
 use crosscheck::generate;
+use crosscheck::masks::FIXED_DWORDS;
+use std::hint::black_box;
 
 const CAPACITY: u32 = 2048;
 
 /// About how many dwords a batch has.
 const SIZES: [usize; 3] = [1_000, 4_000, 16_000];
 
-/// Dwords of VFE, descriptor load and END.
-const OVERHEAD: usize = 8 + 4 + 1;
+const VFE_STATE: [u32; 8] = [VFE << 16 | 6, 0, 0x0007_4000, 0, 0x0002_0004, 0, 0, 0];
+const CURBE_LOAD: [u32; 4] = [CURBE << 16 | 2, 0, 96, 0x2000];
+const DESCRIPTOR_LOAD: [u32; 4] = [DESCRIPTOR << 16 | 2, 0, 32, 0x1000];
 
-pub fn run() {
-    table::head("batch", "dword");
-    for size in SIZES {
-        both_entries("picture, OBJECTs of 9 dwords", &objects(size, 3));
-    }
-    for size in SIZES {
-        both_entries("OBJECTs with 500 inline dwords", &objects(size, 500));
-    }
-    for size in SIZES {
-        both_entries("no-ops", &noops(size));
+pub fn run(tables: &mut Tables) {
+    let shape = Shape::PerUnit {
+        size: "dwords",
+        unit: "dword",
+    };
+    tables.head("batch", shape);
+    let mut sizes = |name, batch: &dyn Fn(usize) -> Vec<u32>| {
+        for size in SIZES {
+            both_entries(tables, name, &batch(size));
+        }
+    };
+    sizes("picture, OBJECTs of 9 dwords", &|size| objects(size, 3));
+    sizes("OBJECTs without inline data", &|size| objects(size, 0));
+    sizes("OBJECTs with 500 inline dwords", &|size| objects(size, 500));
+    sizes("VFE and MI_FLUSH in turn", &|size| {
+        let mut pair = VFE_STATE.to_vec();
+        pair.push(FLUSH);
+        repeat(size, &[], &pair)
+    });
+    sizes("CURBE loads", &|size| repeat(size, &VFE_STATE, &CURBE_LOAD));
+    sizes("descriptor loads", &|size| {
+        repeat(size, &VFE_STATE, &DESCRIPTOR_LOAD)
+    });
+    sizes("state flushes", &|size| {
+        repeat(size, &[], &[STATE_FLUSH << 16, 1])
+    });
+    sizes("MI_FLUSH", &|size| repeat(size, &[], &[FLUSH]));
+    sizes("no-ops", &|size| repeat(size, &[], &[NOOP]));
+    sizes("all kinds mixed", &|size| {
+        generate::batch::mixed(size, CAPACITY)
+    });
+    // Nothing after it is read, so the time is that of a call.
+    for size in [1, SIZES[0], SIZES[2]] {
+        let mut batch = vec![NOOP; size];
+        batch[0] = END;
+        both_entries(tables, "END alone, others after it", &batch);
     }
 }
 
 /// As many OBJECTs as come nearest to the size.
-fn objects(size: usize, inline: usize) -> Vec<u32> {
-    let total = 6 + inline;
-    let count = (size - OVERHEAD + total / 2) / total;
-    let mut batch = vec![VFE << 16 | 6, 0, 0x0007_4000, 0, 0x0002_0004, 0, 0, 0];
-    batch.extend([DESCRIPTOR << 16 | 2, 0, 32, 0x1000]);
+fn objects(size: usize, inline: u32) -> Vec<u32> {
+    let total = 6 + inline as usize;
+    let start = [&VFE_STATE[..], &DESCRIPTOR_LOAD].concat();
+    let count = (size - start.len() - 1 + total / 2) / total;
+    let mut batch = start;
     for object in 0..count as u32 {
         let (x, y) = (object % 45, object / 45);
-        let header = OBJECT << 16 | (total as u32 - 2);
-        batch.extend([header, 0, 1 << 21, 0, y << 16 | x, 0xff]);
-        batch.extend((0..inline as u32).map(|word| word ^ CURBE << 16));
+        batch.extend([
+            OBJECT << 16 | (4 + inline),
+            0,
+            1 << 21,
+            0,
+            y << 16 | x,
+            0xff,
+        ]);
+        batch.extend((0..inline).map(|word| word ^ CURBE << 16));
     }
     batch.push(END);
-    assert_eq!(batch.len(), OVERHEAD + count * total);
     batch
 }
 
-fn noops(size: usize) -> Vec<u32> {
-    let mut batch = vec![NOOP; size];
-    batch[size - 1] = END;
-    batch
+/// A start, a command or two again and again, and END, in no more dwords than the size.
+fn repeat(size: usize, start: &[u32], again: &[u32]) -> Vec<u32> {
+    let count = (size - start.len() - 1) / again.len();
+    [start, &again.repeat(count), &[END]].concat()
 }
 
-fn both_entries(name: &str, batch: &[u32]) {
-    let size = batch.len();
-    let input = |entry| Input { name, entry, size };
+/// What must be read of a batch: its commands without inline data.
+pub fn looked_at(batch: &[u32]) -> Vec<u32> {
+    let mut looked_at = Vec::new();
+    let mut rest = batch;
+    loop {
+        let total = match rest[0] >> 16 {
+            0x7000..=0x7100 => (rest[0] & 0xffff) as usize + 2,
+            _ => 1,
+        };
+        let fixed = if rest[0] >> 16 == OBJECT { 6 } else { total };
+        assert!(fixed <= FIXED_DWORDS);
+        looked_at.extend(&rest[..fixed]);
+        if rest[0] == END {
+            return looked_at;
+        }
+        rest = &rest[total..];
+    }
+}
+
+fn both_entries(tables: &mut Tables, name: &str, batch: &[u32]) {
+    let looked_at = looked_at(batch);
     let dwords = [ffi::check_batch_dwords, batch::check];
-    row(&input("dwords"), dwords, batch, RECORD);
-    let bytes = [ffi::check_batch, batch::check_bytes];
-    row(&input("bytes"), bytes, &generate::bytes(batch), 4 * RECORD);
+    row(tables, name, "dwords", dwords, batch, &looked_at, RECORD);
+    let entries = [ffi::check_batch, batch::check_bytes];
+    let [batch, looked_at] = [batch, &looked_at].map(generate::bytes);
+    row(
+        tables,
+        name,
+        "bytes",
+        entries,
+        &batch,
+        &looked_at,
+        4 * RECORD,
+    );
 }
 
 type Check<T> = fn(&[T], u32, &mut [T]) -> Answer;
 
-fn row<T: Clone + Default>(input: &Input, entries: [Check<T>; 2], batch: &[T], record: usize) {
+fn row<T: Plain>(
+    tables: &mut Tables,
+    name: &str,
+    entry: &'static str,
+    entries: [Check<T>; 2],
+    batch: &[T],
+    looked_at: &[T],
+    record: usize,
+) {
+    // Unknown to the compiler, as the library's code is anyway: neither entry is
+    // inlined into the loop or fitted to its arguments.
+    let entries = black_box(entries);
     // Room for a record per dword is enough for any batch.
-    let mut room = vec![T::default(); record * input.size + LINE];
-    let records = from_line(&mut room);
-    table::row(input, entries, |check| {
-        let answer = check(batch, CAPACITY, records);
-        assert_eq!((answer.number, answer.dwords), (0, input.size as u64));
+    let size = size_of_val(batch) / 4;
+    let mut batch = Lent::holding(batch, 0);
+    let mut looked_at = Lent::holding(looked_at, 0);
+    let mut records = Lent::new(record * size, 1024);
+    let (batch, looked_at, records) = (batch.get(), looked_at.get(), records.get());
+
+    let expected = entries[1](batch, CAPACITY, records);
+    assert_eq!(expected.number, 0);
+    let filled = record * expected.commands as usize;
+    let left = records.to_vec();
+    records.fill(T::default());
+    assert_eq!(entries[0](batch, CAPACITY, records), expected);
+    assert!(records == left);
+
+    let input = Input {
+        name: name.into(),
+        entry,
+        size,
+        units: expected.dwords as usize,
+    };
+    tables.row(input, |side| {
+        let answer = match side {
+            Side::Library => entries[0](batch, CAPACITY, records),
+            Side::Second => entries[1](batch, CAPACITY, records),
+            Side::Limit => {
+                limit::read(looked_at);
+                limit::store(&mut records[..filled]);
+                expected
+            }
+        };
+        assert_eq!(answer, expected);
     });
 }

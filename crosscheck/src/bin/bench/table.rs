@@ -1,37 +1,143 @@
-//! A Markdown table per subject, all of one shape.
+//! A Markdown table per subject.
 
-use crate::timing::turns;
+use crate::timing::{turns, Side, Times, SIDES};
 
 /// What a row measures.
-pub struct Input<'a> {
-    pub name: &'a str,
+#[derive(Clone)]
+pub struct Input {
+    pub name: String,
     /// What the entry takes: dwords or bytes.
-    pub entry: &'a str,
-    /// Dwords of the batch, or events.
+    pub entry: &'static str,
+    /// Dwords of the batch, objects or events.
     pub size: usize,
+    /// What the time is divided by.
+    pub units: usize,
 }
 
-/// The head of a subject's table, whose sizes count `unit`s.
-pub fn head(subject: &str, unit: &str) {
-    println!("\n## {subject}\n");
-    let [library, second] = ["library", "second"].map(|side| format!("{side} ns/{unit}"));
-    let size = format!("{unit}s");
-    line(["input", "entry", &size, &library, &second, "ratio"]);
-    line(["---", "---", "--:", "--:", "--:", "--:"]);
+/// How a table shows its rows.
+#[derive(Clone, Copy)]
+pub enum Shape {
+    /// Nanoseconds a unit, and the ratio.
+    PerUnit {
+        size: &'static str,
+        unit: &'static str,
+    },
+    /// Microseconds a call, and how they grow from row to row.
+    Growth { size: &'static str },
 }
 
-/// Times the library's entry and then the second's, and prints the row. `call` lends
-/// the input and its buffers to an entry.
-pub fn row<F: Copy>(input: &Input, entries: [F; 2], call: impl FnMut(F)) {
-    let [library, second] = turns(entries, call);
-    let per_unit = |seconds: f64| nanoseconds(1e9 * seconds / input.size as f64);
+struct Table {
+    subject: &'static str,
+    shape: Shape,
+    rows: Vec<(Input, Times)>,
+}
+
+/// The tables under way. Every pass makes the same rows in the same order; the best time
+/// of all passes counts.
+#[derive(Default)]
+pub struct Tables {
+    tables: Vec<Table>,
+    table: usize,
+    row: usize,
+}
+
+impl Tables {
+    /// Begins a pass.
+    pub fn pass(&mut self) {
+        self.table = 0;
+    }
+
+    /// Begins a subject's table.
+    pub fn head(&mut self, subject: &'static str, shape: Shape) {
+        if self.table == self.tables.len() {
+            self.tables.push(Table {
+                subject,
+                shape,
+                rows: Vec::new(),
+            });
+        }
+        self.table += 1;
+        self.row = 0;
+    }
+
+    /// Times the sides. `call` lends the input and its buffers to one.
+    pub fn row(&mut self, input: Input, call: impl FnMut(Side)) {
+        let times = turns(call);
+        let rows = &mut self.tables[self.table - 1].rows;
+        match rows.get_mut(self.row) {
+            None => rows.push((input, times)),
+            Some((_, best)) => {
+                for (best, time) in best.iter_mut().zip(times) {
+                    *best = best.min(time);
+                }
+            }
+        }
+        self.row += 1;
+    }
+
+    pub fn print(&self) {
+        for table in &self.tables {
+            println!("\n### {}\n", table.subject);
+            match table.shape {
+                Shape::PerUnit { size, unit } => {
+                    let sides = ["library", "second", "limit"];
+                    let [library, second, limit] = sides.map(|side| format!("{side} ns/{unit}"));
+                    line(["input", "entry", size, &library, &second, &limit, "ratio"]);
+                    line(["---", "---", "--:", "--:", "--:", "--:", "--:"]);
+                    table
+                        .rows
+                        .iter()
+                        .for_each(|(input, times)| per_unit(input, times));
+                }
+                Shape::Growth { size } => {
+                    grown(["run", size, "library us", "grows", "second us", "grows"]);
+                    grown(["---", "--:", "--:", "--:", "--:", "--:"]);
+                    let mut before: Option<&(Input, Times)> = None;
+                    for row in &table.rows {
+                        growth(row, before.filter(|before| before.0.name == row.0.name));
+                        before = Some(row);
+                    }
+                }
+            }
+        }
+    }
+}
+
+/// The time of a side.
+fn of(times: &Times, side: Side) -> f64 {
+    let at = SIDES.iter().position(|&other| other == side);
+    times[at.expect("a side")]
+}
+
+fn per_unit(input: &Input, times: &Times) {
+    let per_unit = |side| nanoseconds(1e9 * of(times, side) / input.units as f64);
+    let ratio = of(times, Side::Second) / of(times, Side::Library);
     line([
-        input.name,
+        &input.name,
         input.entry,
         &input.size.to_string(),
-        &per_unit(library),
-        &per_unit(second),
-        &format!("{:.2}", second / library),
+        &per_unit(Side::Library),
+        &per_unit(Side::Second),
+        &per_unit(Side::Limit),
+        &format!("{ratio:.2}"),
+    ]);
+}
+
+fn growth((input, times): &(Input, Times), before: Option<&(Input, Times)>) {
+    let side = |side| {
+        let grows = before.map(|(_, before)| of(times, side) / of(before, side));
+        let grows = grows.map_or(String::new(), |grows| format!("x {grows:.1}"));
+        (format!("{:.1}", 1e6 * of(times, side)), grows)
+    };
+    let (library, library_grows) = side(Side::Library);
+    let (second, second_grows) = side(Side::Second);
+    grown([
+        &input.name,
+        &input.size.to_string(),
+        &library,
+        &library_grows,
+        &second,
+        &second_grows,
     ]);
 }
 
@@ -42,6 +148,14 @@ fn nanoseconds(time: f64) -> String {
 }
 
 /// A line of a table, in columns that also stand below each other on a screen.
-fn line([name, entry, size, library, second, ratio]: [&str; 6]) {
-    println!("| {name:<32} | {entry:<6} | {size:>6} | {library:>16} | {second:>15} | {ratio:>5} |");
+fn line([name, entry, size, library, second, limit, ratio]: [&str; 7]) {
+    println!(
+        "| {name:<40} | {entry:<6} | {size:>6} | {library:>16} | {second:>15} | {limit:>14} | {ratio:>5} |"
+    );
+}
+
+fn grown([name, size, library, library_grows, second, second_grows]: [&str; 6]) {
+    println!(
+        "| {name:<40} | {size:>7} | {library:>10} | {library_grows:>6} | {second:>10} | {second_grows:>6} |"
+    );
 }

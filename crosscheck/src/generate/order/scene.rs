@@ -290,32 +290,27 @@ pub fn picture(width: i32, height: i32, layout: Layout, stalling: bool) -> (Scen
     (scene, run)
 }
 
-/// As many blocks, too far apart to wait for each other and not stalling; all
-/// start before one finishes, so that each start meets every block before it.
-pub fn spread(width: i32, height: i32) -> (Scene, Vec<u32>) {
+/// So many objects under one VFE, each where and as `object` says, with no inline data.
+pub fn field(objects: usize, vfe: Vfe, object: impl Fn(usize) -> Object) -> Scene {
+    field_with_gaps(objects, &[], vfe, object)
+}
+
+/// The same with so many no-ops after each of the first objects.
+pub fn field_with_gaps(
+    objects: usize,
+    no_ops: &[usize],
+    vfe: Vfe,
+    object: impl Fn(usize) -> Object,
+) -> Scene {
     let random = &mut Random::new(1);
     let mut scene = Scene::default();
-    let vfe = Vfe {
-        enable: true,
-        stalling: false,
-        mask: 255,
-        deltas: [(-8, -8); 8],
-    };
     scene.vfe(random, vfe);
-    for (x, y) in (0..height).flat_map(|y| (0..width).map(move |x| (9 * x, 9 * y))) {
-        let block = Object {
-            own_use: true,
-            x,
-            y,
-            colour: 0,
-            mask: 255,
-        };
-        scene.object(random, block, 3);
+    for number in 0..objects {
+        scene.object(random, object(number), 0);
+        let no_ops = no_ops.get(number).copied().unwrap_or(0);
+        scene.commands.extend(vec![Command::plain(0); no_ops]);
     }
-    let events = 2 * scene.objects() as u32;
-    let starts = (0..events).step_by(2);
-    let run = starts.chain((1..events).step_by(2)).collect();
-    (scene, run)
+    scene
 }
 
 /// The blocks that run together, in the order in which they do.

@@ -33,6 +33,21 @@ fn scenes_are_judged_alike() {
 }
 
 #[test]
+fn long_runs_are_judged_alike() {
+    let mut reached = [0; 26];
+    for index in 0..80 {
+        let (scene, run) = long_run(&mut Random::for_case(6, index));
+        let expected = scene.judge(&run);
+        let case = Case::new(&scene, run);
+        assert_eq!(checked(&case), expected, "case {index}");
+        reached[expected.0.number as usize] += 1;
+    }
+    for number in [0, 22, 24, 25] {
+        assert!(reached[number] > 0, "{number}");
+    }
+}
+
+#[test]
 fn complete_runs_pass() {
     for index in 0..500 {
         let mut random = Random::for_case(4, index);

@@ -61,3 +61,41 @@ fn forwards_are_accepted() {
     let accepted = outcomes.iter().filter(|&&outcome| outcome == 0).count();
     assert!((MOST / 2..MOST * 4 / 5).contains(&accepted), "{accepted}");
 }
+
+/// Every event of a recording of one kind has that kind's outcome.
+#[test]
+fn recordings_of_one_kind() {
+    use kinds::{Kind, Route};
+    let mut kinds = vec![
+        Kind::Opens,
+        Kind::Closes,
+        Kind::LastBytes,
+        Kind::OneRegister,
+        Kind::RefusedForwards,
+        Kind::Timestamps,
+        Kind::Barriers(1),
+        Kind::Barriers(4),
+        Kind::Barriers(16),
+        Kind::Updates,
+        Kind::Mixed,
+        Kind::Malformed,
+    ];
+    for route in [Route::Bypass, Route::Gateways] {
+        kinds.extend((0..6).map(|code| Kind::Forwards(route, code)));
+        kinds.extend([Kind::AnyForwards(route), Kind::AckedForwards(route)]);
+    }
+    for kind in kinds {
+        let case = kind.recording(2000);
+        let mut outcomes = vec![99; case.outcomes];
+        let answer = replay(
+            &case.recording,
+            &mut vec![0; case.registers],
+            &mut vec![0; case.counts],
+            &mut outcomes,
+        );
+        assert_eq!((answer.number, outcomes.len()), (0, 2000), "{kind:?}");
+        if let Some(outcome) = kind.outcome() {
+            assert!(outcomes.iter().all(|&other| other == outcome), "{kind:?}");
+        }
+    }
+}
