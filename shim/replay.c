@@ -12,16 +12,16 @@
 #include "files.h"
 #include "mpl.h"
 
-enum { REPLAYED = 0, REFUSED = 1, FAILED = 2 };
-
 enum { HEADER_BYTES = MPL_RECORDING_GROUPS_AT };
 
 /* No recording that is accepted is longer. */
 enum { RECORDING_BYTES_MOST = HEADER_BYTES + MPL_THREADS_MOST + MPL_EVENT_BYTES * UINT16_MAX };
 
 const char program[] = "mpl_replay";
-static const char usage[] = "usage: mpl_replay RECORDING [REGISTERS]\n"
-                            "RECORDING: a file; REGISTERS: a new file for the registers as the replay leaves them, 4,096 bytes a thread\n";
+const char usage[] = "usage: mpl_replay RECORDING [REGISTERS]\n"
+                     "RECORDING: a file; REGISTERS: a new file for the registers as the replay leaves them, 4,096 bytes a thread\n";
+const char statuses[] = "exit status: 0 replayed; 1 refused; 2 not asked, or the answer not written: standard error says why\n"
+                        "REGISTERS is made with exit status 0 alone, and for its owner to read alone\n";
 
 /* Document 004's names of its SubFuncIDs. */
 static const char *const kinds[] = {"OpenGateway", "CloseGateway",       "ForwardMsg",     "GetTimeStamp",
@@ -154,16 +154,7 @@ static void print_replayed(const struct lent *lent, const struct mpl_replayed *r
     print_barriers(replayed->barriers, sizeof replayed->barriers / sizeof replayed->barriers[0]);
 }
 
-/* A report that lost its end would pass for a whole one. */
-static int printed(int status)
-{
-    if (fflush(stdout) == 0 && !ferror(stdout))
-        return status;
-    complain("standard output", "cannot be written");
-    return FAILED;
-}
-
-/* A refused recording has no registers to give back. */
+/* A refused recording has no registers to give back. They are written last, so that no run that fails leaves them. */
 static int ask(const struct lent *lent, const char *registers_path)
 {
     struct mpl_replayed replayed =
@@ -173,14 +164,17 @@ static int ask(const struct lent *lent, const char *registers_path)
         printf("recording: number %" PRIu32 ": %s\n", replayed.number, meaning_of(replayed.number));
         return printed(REFUSED);
     }
-    if (registers_path != NULL && !write_new_file(registers_path, &lent->registers))
-        return FAILED;
     print_replayed(lent, &replayed);
-    return printed(REPLAYED);
+    int status = printed(DONE);
+    if (status == DONE && registers_path != NULL && !write_new_file(registers_path, &lent->registers))
+        return FAILED;
+    return status;
 }
 
 int main(int argc, char **argv)
 {
+    if (asks_for_help(argc, argv))
+        return give_help();
     if (argc < 2 || argc > 3) {
         fputs(usage, stderr);
         return FAILED;

@@ -1,6 +1,6 @@
 /*
  * The shim as a program: lends buffers, asks both checks about a batch and a run, and says what their numbers and places mean.
- * Exit status: 0 both accept; 1 one refuses; 2 they were not asked, and standard error says why.
+ * Exit status: 0 both accept; 1 one refuses; 2 they were not asked, or what they answered not written, and standard error says why.
  */
 #include <inttypes.h>
 #include <stdio.h>
@@ -9,14 +9,13 @@
 #include "files.h"
 #include "mpl.h"
 
-enum { ACCEPTED = 0, REFUSED = 1, NOT_ASKED = 2 };
-
 /* More than any batch that is accepted, so that it is the library that refuses a long one. */
 enum { FILE_BYTES_MOST = 1 << 20 };
 
 const char program[] = "mpl_shim";
-static const char usage[] = "usage: mpl_shim BATCH RUN [CAPACITY]\n"
-                            "BATCH, RUN: files of little-endian dwords, at most 1 MiB; CAPACITY: of the URB, in 256-bit rows (2048)\n";
+const char usage[] = "usage: mpl_shim BATCH RUN [CAPACITY]\n"
+                     "BATCH, RUN: files of little-endian dwords, at most 1 MiB; CAPACITY: of the URB, in 256-bit rows (2048)\n";
+const char statuses[] = "exit status: 0 both checks accept; 1 one refuses; 2 not asked, or answers not written: standard error says why\n";
 static const uint32_t usual_capacity = 2048;
 
 /* What each number but 0 means, and what its place is. */
@@ -174,7 +173,7 @@ static int ask(const struct lent *lent, uint32_t capacity)
     print_order(&order, batch.number != MPL_PART_OF_A_DWORD);
     if (run_was_begun(order.number))
         print_states(lent, batch.commands);
-    return batch.number == MPL_ACCEPTED && order.number == MPL_ACCEPTED ? ACCEPTED : REFUSED;
+    return printed(batch.number == MPL_ACCEPTED && order.number == MPL_ACCEPTED ? DONE : REFUSED);
 }
 
 /* strtoull would take a sign or a blank; its answer on overflow is above every capacity. */
@@ -188,13 +187,15 @@ static bool read_capacity(const char *text, uint32_t *capacity)
 
 int main(int argc, char **argv)
 {
+    if (asks_for_help(argc, argv))
+        return give_help();
     uint32_t capacity = usual_capacity;
     if (argc < 3 || argc > 4 || (argc == 4 && !read_capacity(argv[3], &capacity))) {
         fputs(usage, stderr);
-        return NOT_ASKED;
+        return FAILED;
     }
     struct lent lent = {0};
-    int status = make_lent(&lent, argv[1], argv[2]) ? ask(&lent, capacity) : NOT_ASKED;
+    int status = make_lent(&lent, argv[1], argv[2]) ? ask(&lent, capacity) : FAILED;
     free_lent(&lent);
     return status;
 }
