@@ -1,13 +1,3 @@
-pub mod Turns
-pub mod RecordWords
-pub mod Walk
-pub mod Scans
-pub mod Fills
-pub mod Decisions
-pub mod Same
-pub mod Acceptance
-pub mod EndToEnd
-pub mod Slots
-pub mod Vfes
-pub mod Counts
+pub mod Entries
+pub mod Claimed
 pub mod Isolation

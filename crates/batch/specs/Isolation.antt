@@ -1,20 +1,26 @@
--- Demand 3, batches: two that differ only in inline data of objects passed. "A command is passed when neither it nor an earlier one is faulty,
--- whatever 1, 10 and 17 say": so by the reading, which has none of the three in it.
+-- Guards of the words of demand 3, batches (`Alike`, `BytesAlike` of reading): what those words take in, said of every batch, whatever
+-- stops it, and whatever 1, 10 and 17 say. A word that took in less, or passed fewer commands, would not meet them.
 use mathlib.Core.Path.{_≡_}
 use mathlib.Core.List.{List}
-use Prim.Native.Nat.{ℕ, _/_}
-use lib.ListN.{length, getD}
+use Prim.Native.Nat.{ℕ, _+_, _*_, _<_, _≤_}
+use lib.ListN.{length, set}
 use Rattle.words.specs.Dwords.{dwordsOf}
-use Rattle.batch.specs.Reading.{readingOf}
-use Rattle.batch.specs.Unread.{Inline}
+use Rattle.command.specs.Order.{Command}
+use Rattle.reading.specs.Reading.{Stop, reading, readingOf}
+use Rattle.reading.specs.EndToEnd.{Laid}
+use Rattle.reading.specs.Isolation.{Alike, BytesAlike}
+use Rattle.reading.specs.Vfes.{commandNumber}
 
--- "two batches that differ only in inline data of objects passed before the reading stopped": they agree at every dword that is not inline
--- data of an OBJECT passed in the first. "Two things said to agree but for some bytes, or to differ only in some, have one length."
-pub record Alike (capacity : ℕ) (b b′ : List ℕ) : Type 0 where
-  pub size : length b ≡ length b′
-  pub agree : (i : ℕ) → (Inline (readingOf capacity b .passed) i → ⊥) → getD b i 0 ≡ getD b′ i 0
-
--- the same over bytes: byte i is one of the four of dword i / 4
-pub record BytesAlike (capacity : ℕ) (b b′ : List ℕ) : Type 0 where
-  pub size : length b ≡ length b′
-  pub agree : (i : ℕ) → (Inline (readingOf capacity (dwordsOf b) .passed) (i / 4) → ⊥) → getD b i 0 ≡ getD b′ i 0
+pub record Guards : Type 0 where
+  -- what is passed: the commands laid end to end up to where reading stops, and no others
+  pub passed : (capacity : ℕ) (b : List ℕ) → Laid capacity b (readingOf capacity b .passed) (readingOf capacity b .stop)
+  pub only : (capacity : ℕ) (b : List ℕ) (cs : List Command) (stop : Stop) → Laid capacity b cs stop
+      → readingOf capacity b ≡ reading cs stop
+  -- "Inline data is an OBJECT's dwords from 6 on": any value in any such dword of any OBJECT passed makes a batch that differs only there
+  pub inline : (capacity : ℕ) (b : List ℕ) (cs : List Command) (stop : Stop) → Laid capacity b cs stop
+      → (m : ℕ) → m < length cs → commandNumber cs m .kind ≡ 7 → (i : ℕ) → 6 ≤ i → i < commandNumber cs m .total
+      → (v : ℕ) → Alike capacity b (set b (commandNumber cs m .place + i) v)
+  -- over bytes: any value in any of its four bytes
+  pub inlineBytes : (capacity : ℕ) (b : List ℕ) (cs : List Command) (stop : Stop) → Laid capacity (dwordsOf b) cs stop
+      → (m : ℕ) → m < length cs → commandNumber cs m .kind ≡ 7 → (i : ℕ) → 6 ≤ i → i < commandNumber cs m .total
+      → (j : ℕ) → j < 4 → (v : ℕ) → BytesAlike capacity b (set b (4 * (commandNumber cs m .place + i) + j) v)

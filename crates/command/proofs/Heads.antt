@@ -1,36 +1,56 @@
 -- A command's own dwords. Assumes nothing.
 use mathlib.Core.Path.{_≡_, refl, sym, ap, subst, _∙_}
 use mathlib.Core.Bool.{Bool, true, false, cond}
-use Prim.Native.Nat.{ℕ, _+_, _/_, _%_, _≤_, _<_}
+use Prim.Native.Nat.{ℕ, _/_, _%_, _^_, _≤_, _<_}
 use native.Mathlib.Omega.{arith}
-use lib.ListN.{getD}
-use lib.Dec.{eqb, ltb}
-use borrow.Author.Tests.{ltb-true, ne-eqb}
+use lib.ListN.{getD, drop}
+use lib.Seq.{getD-drop}
+use native.Mathlib.Nat.{add-zero}
+use lib.Dec.{eqb, ltb, leb}
+use borrow.Author.Tests.{ltb-true, leb-true, lt-leb, le-ltb, ne-eqb}
+use Rattle.laws.proofs.Choices.{by-test, by-cond}
 use lib.Bits.{bitAnd, and-mask}
 use Rattle.laws.proofs.BitRanges.{taken}
-use mathlib.Core.List.{List}
-use Rattle.command.specs.Kinds.{media, noKind, kindOf, headOf, ownDword, ownDwords}
+use mathlib.Core.List.{List, [], _∷_}
+use Rattle.laws.specs.Rows.{row, firstRow}
+use Rattle.command.specs.Kinds.{header, noKind, kindOf, isMedia, lengthAllowed, ownDwords, ownDword, headOf, DwordsAt}
 
 -- a descriptor load has as many dwords as a CURBE load
 pub five-as-four : (l : List ℕ) → headOf 4 l ≡ headOf 5 l
 unfolding headOf ownDwords
 five-as-four l = refl
 
-pub own-fits : (k n m at len : ℕ) → ownDwords n ≡ m → k ≡ n → at + ownDwords k ≤ len → at + m ≤ len
-own-fits k n m at len o e p = subst (λ (x : ℕ). at + x ≤ len) (ap ownDwords e ∙ o) p
+pub as-kind : (k n : ℕ) (l r : List ℕ) → k ≡ n → r ≡ headOf n l → r ≡ headOf k l
+as-kind k n l r p e = e ∙ ap (λ (x : ℕ). headOf x l) (sym p)
+
+-- the own dwords of a kind n, of which it has m, are there where those of k are
+pub own-at : (k n m : ℕ) (l : List ℕ) (at d : ℕ) → ownDwords n ≡ m → k ≡ n → DwordsAt l at (ownDwords k) d → DwordsAt l at m d
+own-at k n m l at d o e p = subst (λ (x : ℕ). DwordsAt l at x d) (ap ownDwords e ∙ o) p
 
 -- every command has a dword of its own
 pub own-pos : (k : ℕ) → 0 < ownDwords k
 unfolding ownDwords
-own-pos k = five (eqb k 7) (eqb k 3) (eqb k 4) (eqb k 5) (eqb k 6)
-  where
-    five : (a b c d e : Bool) → 0 < cond a 6 (cond b 8 (cond c 4 (cond d 4 (cond e 2 1))))
-    five true b c d e = omega arith
-    five false true c d e = omega arith
-    five false false true d e = omega arith
-    five false false false true e = omega arith
-    five false false false false true = omega arith
-    five false false false false false = omega arith
+own-pos k =
+    by-cond (λ (n : ℕ). 0 < n) (eqb k 7) _ _ (λ _. omega arith)
+    (λ _. by-cond (λ (n : ℕ). 0 < n) (isMedia k) _ _ (λ _. omega arith) (λ _. omega arith))
+
+-- a command that is no media command has one dword
+module _ (k : ℕ) (n3 : k ≡ 3 → ⊥) (n4 : k ≡ 4 → ⊥) (n5 : k ≡ 5 → ⊥) (n6 : k ≡ 6 → ⊥) (n7 : k ≡ 7 → ⊥) where
+  no-media : isMedia k ≡ false
+  no-media = by-test (leb 3 k) (λ p. let l = leb-true 3 k p in simp (p, lt-leb k 7 (omega arith))) (λ p. simp p)
+
+  -- and past kinds 0 to 2 no length field is allowed
+  pub none-allowed : (n : ℕ) → 3 ≤ k → false ≡ lengthAllowed k n
+  unfolding lengthAllowed
+  none-allowed n l = simp (le-ltb k 3 l, ne-eqb k 7 n7, no-media)
+
+  own-one : ownDwords k ≡ 1
+  unfolding ownDwords
+  own-one = simp (ne-eqb k 7 n7, no-media)
+
+  pub head-one : (d at : ℕ) (l : List ℕ) → d ≡ getD l at 0 → d ∷ 0 ∷ 0 ∷ 0 ∷ 0 ∷ 0 ∷ 0 ∷ 0 ∷ [] ≡ headOf k (drop at l)
+  unfolding headOf
+  head-one d at l e = simp (ne-eqb k 7 n7, own-one, getD-drop, add-zero, ← e)
 
 -- The deciding law: two lists that agree on the own dwords of a command give one head.
 module _ (k : ℕ) (l l′ : List ℕ) (same : (i : ℕ) → i < ownDwords k → getD l i 0 ≡ getD l′ i 0) where
@@ -43,7 +63,7 @@ module _ (k : ℕ) (l l′ : List ℕ) (same : (i : ℕ) → i < ownDwords k →
 
   pub head-same : headOf k l ≡ headOf k l′
   unfolding headOf
-  head-same = simp (same 0 (own-pos k), own-is 1, own-is 2, own-is 3, own-is 4, own-is 5, own-is 6, own-is 7)
+  head-same = simp (same 0 (own-pos k), own-is)
 
 -- an OBJECT's own dwords are the six before its inline data
 pub own-object : ownDwords 7 ≡ 6
@@ -58,8 +78,13 @@ own-end = refl
 -- a media command's kind, by its type and opcodes
 abbrev mediaKind : ℕ → ℕ
 mediaKind m =
-    cond (eqb m (media 0 0)) 3
-    (cond (eqb m (media 0 1)) 4 (cond (eqb m (media 0 2)) 5 (cond (eqb m (media 0 4)) 6 (cond (eqb m (media 1 0)) 7 noKind))))
+    firstRow noKind
+    (row 3 (eqb m (header 3 / 2 ^ 16))
+    ∷ row 4 (eqb m (header 4 / 2 ^ 16))
+    ∷ row 5 (eqb m (header 5 / 2 ^ 16))
+    ∷ row 6 (eqb m (header 6 / 2 ^ 16))
+    ∷ row 7 (eqb m (header 7 / 2 ^ 16))
+    ∷ [])
 
 -- type and opcodes tell a media command from the whole dwords of kinds 0 to 2
 pub media-kind : (d m : ℕ) → bitAnd (d / 65536) 65535 ≡ m → 0x0500 < m → mediaKind m ≡ kindOf d

@@ -1,16 +1,29 @@
 -- What commands set, one at a time, is what their list says. Assumes nothing.
 use mathlib.Core.Path.{_≡_, refl}
-use mathlib.Core.Bool.{cond}
+use mathlib.Core.Bool.{Bool, true, false, cond}
 use Prim.Native.Nat.{ℕ, _+_}
 use native.Mathlib.Numerals.{add-one}
 use mathlib.Core.List.{List, _∷_}
 use lib.Dec.{eqb}
 use Rattle.command.specs.declared.State.{State}
-use Rattle.command.specs.Order.{Command, standsSince, countLoaded, curbeInForce, vfeInForce, objectCount, stateOf, stateAfter}
+use Rattle.command.specs.Order.{Command, among, since, flag, isSet, standsSince, countLoaded, curbeInForce, vfeInForce, objectCount, stateOf, stateAfter}
+
+flag-since : (kinds last : List ℕ) (k : ℕ) (t : Bool) → flag (since false true kinds last k t) ≡ since 0 1 kinds last k (flag t)
+flag-since kinds last k t = go (among k last) (among k kinds)
+  where
+    go : (a b : Bool) → flag (cond a false (cond b true t)) ≡ cond a 0 (cond b 1 (flag t))
+    go true b = refl
+    go false true = refl
+    go false false = refl
 
 pub state-after : (capacity : ℕ) (c : Command) (cs : List Command) → stateOf capacity (c ∷ cs) ≡ stateAfter (c .kind) (c .head) (stateOf capacity cs)
 unfolding stateOf stateAfter standsSince countLoaded curbeInForce vfeInForce objectCount
-state-after capacity c cs = simp add-one
+state-after capacity c cs = simp (add-one, flag-since)
+
+-- a flag tells what it was made of
+pub set-flag : (t : Bool) → isSet (flag t) ≡ t
+set-flag true = refl
+set-flag false = refl
 
 module _ (k : ℕ) (h : List ℕ) (st : State) where
   pub after-commands : stateAfter k h st .commands ≡ st .commands + 1

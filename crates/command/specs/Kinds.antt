@@ -1,54 +1,75 @@
 -- The kinds of command: document 01, "The command words".
-use Prim.Native.Nat.{ℕ, _+_, _*_, _^_}
-use mathlib.Core.Bool.{Bool, true, false, cond}
+use Prim.Native.Nat.{ℕ, _+_, _/_, _%_, _^_, _<_, _≤_}
+use mathlib.Core.Bool.{Bool, true, cond, _&&_}
 use mathlib.Core.List.{List, [], _∷_}
-use lib.ListN.{getD}
+use mathlib.Core.Path.{_≡_}
+use lib.ListN.{length, getD}
 use lib.Dec.{ltb, leb, eqb}
 use Rattle.laws.specs.BitRanges.{bits, field}
+use Rattle.laws.specs.Rows.{row, firstRow}
 
--- "Bits 31:29 of a media header are 3, 28:27 are 2, 26:24 opcode, 23:16 subopcode": these sixteen bits
-abbrev pub media : ℕ → ℕ → ℕ
-media opcode subopcode = 3 * 2 ^ 13 + 2 * 2 ^ 11 + opcode * 2 ^ 8 + subopcode
+-- The table's headers, of kinds 0 to 7. An OBJECT's is "0x7100nnnn, nnnn from 4": here with the least length.
+abbrev headers : List ℕ
+headers =
+    -- 0 no-op
+    0x0000_0000
+    -- 1 MI_FLUSH
+    ∷ 0x0200_0000
+    -- 2 END
+    ∷ 0x0500_0000
+    -- 3 MEDIA_VFE_STATE
+    ∷ 0x7000_0006
+    -- 4 MEDIA_CURBE_LOAD
+    ∷ 0x7001_0002
+    -- 5 MEDIA_INTERFACE_DESCRIPTOR_LOAD
+    ∷ 0x7002_0002
+    -- 6 MEDIA_STATE_FLUSH
+    ∷ 0x7004_0000
+    -- 7 MEDIA_OBJECT
+    ∷ 0x7100_0004
+    ∷ []
+
+abbrev pub header : ℕ → ℕ
+header k = getD headers k 0
+
+-- Is d the first dword of a command of kind k? "Kinds 0 to 2 match as a whole dword (H)"; a media command by its type and opcodes, "Bits
+-- 31:29 of a media header are 3, 28:27 are 2, 26:24 opcode, 23:16 subopcode".
+abbrev isKind : ℕ → ℕ → Bool
+isKind k d = cond (ltb k 3) (eqb d (header k)) (eqb (field (bits 31 16) d) (header k / 2 ^ 16))
 
 -- no command of the table
 abbrev pub noKind : ℕ
 noKind = 255
 
--- The table's kinds 0 to 7, by a command's first dword. "Kinds 0 to 2 match as a whole dword (H)"; a media command by its type and opcodes.
+-- the kind, by a command's first dword
 unfoldable pub kindOf : ℕ → ℕ
 kindOf d =
-    -- 0 no-op 0x00000000
-    cond (eqb d 0x0000_0000) 0
-    -- 1 MI_FLUSH 0x02000000
-    (cond (eqb d 0x0200_0000) 1
-    -- 2 END 0x05000000
-    (cond (eqb d 0x0500_0000) 2
-    -- 3 MEDIA_VFE_STATE 0x70000006
-    (cond (eqb (field (bits 31 16) d) (media 0 0)) 3
-    -- 4 MEDIA_CURBE_LOAD 0x70010002
-    (cond (eqb (field (bits 31 16) d) (media 0 1)) 4
-    -- 5 MEDIA_INTERFACE_DESCRIPTOR_LOAD 0x70020002
-    (cond (eqb (field (bits 31 16) d) (media 0 2)) 5
-    -- 6 MEDIA_STATE_FLUSH 0x70040000
-    (cond (eqb (field (bits 31 16) d) (media 0 4)) 6
-    -- 7 MEDIA_OBJECT 0x7100nnnn
-    (cond (eqb (field (bits 31 16) d) (media 1 0)) 7
-    noKind)))))))
+    firstRow noKind
+    (row 0 (isKind 0 d)
+    ∷ row 1 (isKind 1 d)
+    ∷ row 2 (isKind 2 d)
+    ∷ row 3 (isKind 3 d)
+    ∷ row 4 (isKind 4 d)
+    ∷ row 5 (isKind 5 d)
+    ∷ row 6 (isKind 6 d)
+    ∷ row 7 (isKind 7 d)
+    ∷ [])
+
+-- kinds 3 to 7
+abbrev pub isMedia : ℕ → Bool
+isMedia k = leb 3 k && leb k 7
 
 -- "15:0 length (total dwords minus 2)"
 abbrev pub lengthField : ℕ → ℕ
 lengthField d = field (bits 15 0) d
 
--- What a kind allows in the length field, by the table's headers: an OBJECT "nnnn from 4"; kinds 0 to 2 have no such field.
+-- the length field of a kind's header in the table
+abbrev pub lengthOf : ℕ → ℕ
+lengthOf k = header k % 2 ^ 16
+
+-- What a kind allows in the length field: what its header has, and an OBJECT that or more. Kinds 0 to 2 have no such field.
 unfoldable pub lengthAllowed : ℕ → ℕ → Bool
-lengthAllowed k n =
-    cond (ltb k 3) true
-    (cond (eqb k 7) (leb 4 n)
-    (cond (eqb k 3) (eqb n 6)
-    (cond (eqb k 4) (eqb n 2)
-    (cond (eqb k 5) (eqb n 2)
-    (cond (eqb k 6) (eqb n 0)
-    false)))))
+lengthAllowed k n = cond (ltb k 3) true (cond (eqb k 7) (leb (lengthOf k) n) (isMedia k && eqb n (lengthOf k)))
 
 -- the total, in dwords: 1 for kinds 0 to 2, "nnnn + 2" for a media command
 unfoldable pub totalOf : ℕ → ℕ → ℕ
@@ -60,7 +81,7 @@ inlineFrom = 6
 
 -- How many dwords a kind has of its own: its whole total, but of an OBJECT those before its inline data.
 unfoldable pub ownDwords : ℕ → ℕ
-ownDwords k = cond (eqb k 7) inlineFrom (cond (eqb k 3) 8 (cond (eqb k 4) 4 (cond (eqb k 5) 4 (cond (eqb k 6) 2 1))))
+ownDwords k = cond (eqb k 7) inlineFrom (cond (isMedia k) (lengthOf k + 2) 1)
 
 -- dword i of a command of kind k that the list starts with, and 0 where that is not one of its own
 abbrev pub ownDword : ℕ → List ℕ → ℕ → ℕ
@@ -78,3 +99,7 @@ headOf k l =
     ∷ ownDword k l 6
     ∷ ownDword k l 7
     ∷ []
+
+-- what reading them asks for: n dwords from a place on, of which the first is d
+abbrev pub DwordsAt : List ℕ → ℕ → ℕ → ℕ → Type 0
+DwordsAt l at n d = (at + n ≤ length l) × (at < 2 ^ 32) × (d ≡ getD l at 0)

@@ -1,6 +1,6 @@
 -- What the commands before a command have set: document 01, "Order (H where stricter than 003)".
 use Prim.Native.Nat.{ℕ, _+_}
-use mathlib.Core.Bool.{Bool, false, cond, _||_}
+use mathlib.Core.Bool.{Bool, true, false, cond, not, _||_}
 use mathlib.Core.List.{List, [], _∷_}
 use lib.ListN.{length}
 use lib.Dec.{eqb}
@@ -23,39 +23,37 @@ abbrev pub among : ℕ → List ℕ → Bool
 among k [] = false
 among k (x ∷ xs) = eqb k x || among k xs
 
--- one command of kind k more, after what `before` says
-abbrev pub since : List ℕ → List ℕ → ℕ → ℕ → ℕ
-since kinds last k before = cond (among k last) 0 (cond (among k kinds) 1 before)
+-- one command of kind k more, after what `before` says: `off` after one of the kinds in `last`, `on` after one of `kinds`
+abbrev pub since : {A : Type 0} → A → A → List ℕ → List ℕ → ℕ → A → A
+since off on kinds last k before = cond (among k last) off (cond (among k kinds) on before)
 
--- 1 where a command of the kinds stands since the last of the kinds in `last`, or since the start; else 0
-unfoldable pub standsSince : List ℕ → List ℕ → List Command → ℕ
-standsSince kinds last [] = 0
-standsSince kinds last (c ∷ cs) = since kinds last (c .kind) (standsSince kinds last cs)
+-- does a command of the kinds stand since the last of the kinds in `last`, or since the start?
+unfoldable pub standsSince : List ℕ → List ℕ → List Command → Bool
+standsSince kinds last [] = false
+standsSince kinds last (c ∷ cs) = since false true kinds last (c .kind) (standsSince kinds last cs)
 
 -- "need an earlier VFE"
-abbrev pub earlierVfe : List Command → ℕ
+abbrev pub earlierVfe : List Command → Bool
 earlierVfe cs = standsSince (3 ∷ []) [] cs
 
 -- "no command of kind 3, 4, 5 or 7 stands since the last MI_FLUSH or the start": those kinds, and the flush's
-abbrev pub mediaKinds : List ℕ
+abbrev mediaKinds : List ℕ
 mediaKinds = 3 ∷ 4 ∷ 5 ∷ 7 ∷ []
 
-abbrev pub mediaFlushes : List ℕ
+abbrev mediaFlushes : List ℕ
 mediaFlushes = 1 ∷ []
 
--- 1 where one does
-abbrev pub mediaSinceFlush : List Command → ℕ
+abbrev mediaSinceFlush : List Command → Bool
 mediaSinceFlush cs = standsSince mediaKinds mediaFlushes cs
 
 -- "no OBJECT stands since the last kind 1 or 6": its kind, and those two
-abbrev pub objectKinds : List ℕ
+abbrev objectKinds : List ℕ
 objectKinds = 7 ∷ []
 
-abbrev pub objectFlushes : List ℕ
+abbrev objectFlushes : List ℕ
 objectFlushes = 1 ∷ 6 ∷ []
 
--- 1 where one does
-abbrev pub objectSinceFlush : List Command → ℕ
+abbrev objectSinceFlush : List Command → Bool
 objectSinceFlush cs = standsSince objectKinds objectFlushes cs
 
 -- "the count last loaded; a VFE keeps that count"
@@ -78,17 +76,24 @@ unfoldable pub objectCount : List Command → ℕ
 objectCount [] = 0
 objectCount (c ∷ cs) = cond (eqb (c .kind) 7) (objectCount cs + 1) (objectCount cs)
 
+-- a flag is 1 where something is so, else 0
+abbrev pub flag : Bool → ℕ
+flag t = cond t 1 0
+
+abbrev pub isSet : ℕ → Bool
+isSet n = not (eqb n 0)
+
 -- all of that, with the lent capacity in rows
 unfoldable pub stateOf : ℕ → List Command → State
 stateOf capacity cs =
     record {
       capacity = capacity;
-      configured = earlierVfe cs;
-      vfe = vfeInForce cs;
-      curbe = curbeInForce cs;
-      count = countLoaded cs;
-      standing = mediaSinceFlush cs;
-      unflushed = objectSinceFlush cs;
+      «earlier_vfe» = flag (earlierVfe cs);
+      «vfe_in_force» = vfeInForce cs;
+      «curbe_in_force» = curbeInForce cs;
+      «count_loaded» = countLoaded cs;
+      «media_since_flush» = flag (mediaSinceFlush cs);
+      «object_since_flush» = flag (objectSinceFlush cs);
       commands = length cs;
       objects = objectCount cs;
     }
@@ -99,16 +104,16 @@ unfoldable pub stateAfter : ℕ → List ℕ → State → State
 stateAfter k h st =
     record {
       capacity = st .capacity;
-      configured = since (3 ∷ []) [] k (st .configured);
-      vfe = cond (eqb k 3) (st .commands) (st .vfe);
-      curbe = cond (eqb k 3) (curbeSize h) (st .curbe);
-      count = cond (eqb k 5) (loadCount h) (st .count);
-      standing = since mediaKinds mediaFlushes k (st .standing);
-      unflushed = since objectKinds objectFlushes k (st .unflushed);
+      «earlier_vfe» = since 0 1 (3 ∷ []) [] k (st .«earlier_vfe»);
+      «vfe_in_force» = cond (eqb k 3) (st .commands) (st .«vfe_in_force»);
+      «curbe_in_force» = cond (eqb k 3) (curbeSize h) (st .«curbe_in_force»);
+      «count_loaded» = cond (eqb k 5) (loadCount h) (st .«count_loaded»);
+      «media_since_flush» = since 0 1 mediaKinds mediaFlushes k (st .«media_since_flush»);
+      «object_since_flush» = since 0 1 objectKinds objectFlushes k (st .«object_since_flush»);
       commands = st .commands + 1;
       objects = cond (eqb k 7) (st .objects + 1) (st .objects);
     }
 
 -- the command of kind k at a place, with what the commands before it have set
 abbrev pub commandOf : ℕ → ℕ → ℕ → List ℕ → State → Command
-commandOf k at total h st = record { kind = k; place = at; total = total; head = h; vfe = st .vfe; object = st .objects }
+commandOf k at total h st = record { kind = k; place = at; total = total; head = h; vfe = st .«vfe_in_force»; object = st .objects }

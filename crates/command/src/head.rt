@@ -1,16 +1,15 @@
 // A command's first dword, and the dwords of its own.
 ghost use mathlib.Core.Path.{_≡_};
-ghost use Prim.Native.Nat.{_+_, _≤_, _<_, _^_};
-ghost use lib.ListN.{length, drop, getD};
-ghost use Rattle.words.specs.Dwords.{dwordsIn};
-ghost use Rattle.command.specs.Kinds.{kindOf, totalOf, ownDwords, headOf};
+ghost use lib.ListN.{drop};
+ghost use Rattle.words.specs.Dwords.{lent};
+ghost use Rattle.command.specs.Kinds.{kindOf, totalOf, ownDwords, headOf, DwordsAt};
 use words::word;
 
 pub fn kind(d: u32) -> u32
     ensures { λ r. ⌜ r ≡ kindOf d ⌝ }
 {
-    // the OBJECT first, then the no-op: most of a batch. Tests of the opcodes and of the whole dword take turns, so that the compiler makes no table
-    // of jumps of them
+    // the OBJECT first, then the no-op: most of a batch. Tests of the opcodes and of the whole dword take turns, so that the compiler makes
+    // no table of jumps of them
     let opcodes = (d >> 16) & 0xffff;
     if opcodes == 0x7100 {
         return 7;
@@ -50,8 +49,8 @@ pub fn total(k: u32, d: u32) -> u32
 
 // An OBJECT: six dwords, no inline data.
 fn object_dwords(dw: &[u32], by: &[u8], at: usize, d: u32) -> [u32; 8]
-    requires { ⌜ (at + 6 ≤ length (dwordsIn (now dw) (now by))) × (at < 2 ^ 32) × (d ≡ getD (dwordsIn (now dw) (now by)) at 0) ⌝ }
-    ensures { λ r. ⌜ r ≡ headOf 7 (drop at (dwordsIn (now (dw .entry)) (now (by .entry)))) ⌝ }
+    requires { ⌜ DwordsAt (lent dw by) at 6 d ⌝ }
+    ensures { λ r. ⌜ r ≡ headOf 7 (drop at (lent (dw .entry) (by .entry))) ⌝ }
 {
     [
         d,
@@ -67,8 +66,8 @@ fn object_dwords(dw: &[u32], by: &[u8], at: usize, d: u32) -> [u32; 8]
 
 // A VFE: eight.
 fn vfe_dwords(dw: &[u32], by: &[u8], at: usize, d: u32) -> [u32; 8]
-    requires { ⌜ (at + 8 ≤ length (dwordsIn (now dw) (now by))) × (at < 2 ^ 32) × (d ≡ getD (dwordsIn (now dw) (now by)) at 0) ⌝ }
-    ensures { λ r. ⌜ r ≡ headOf 3 (drop at (dwordsIn (now (dw .entry)) (now (by .entry)))) ⌝ }
+    requires { ⌜ DwordsAt (lent dw by) at 8 d ⌝ }
+    ensures { λ r. ⌜ r ≡ headOf 3 (drop at (lent (dw .entry) (by .entry))) ⌝ }
 {
     [
         d,
@@ -84,8 +83,8 @@ fn vfe_dwords(dw: &[u32], by: &[u8], at: usize, d: u32) -> [u32; 8]
 
 // A load: four.
 fn load_dwords(dw: &[u32], by: &[u8], at: usize, d: u32) -> [u32; 8]
-    requires { ⌜ (at + 4 ≤ length (dwordsIn (now dw) (now by))) × (at < 2 ^ 32) × (d ≡ getD (dwordsIn (now dw) (now by)) at 0) ⌝ }
-    ensures { λ r. ⌜ r ≡ headOf 4 (drop at (dwordsIn (now (dw .entry)) (now (by .entry)))) ⌝ }
+    requires { ⌜ DwordsAt (lent dw by) at 4 d ⌝ }
+    ensures { λ r. ⌜ r ≡ headOf 4 (drop at (lent (dw .entry) (by .entry))) ⌝ }
 {
     [
         d,
@@ -101,31 +100,23 @@ fn load_dwords(dw: &[u32], by: &[u8], at: usize, d: u32) -> [u32; 8]
 
 // A state flush: two.
 fn flush_dwords(dw: &[u32], by: &[u8], at: usize, d: u32) -> [u32; 8]
-    requires { ⌜ (at + 2 ≤ length (dwordsIn (now dw) (now by))) × (at < 2 ^ 32) × (d ≡ getD (dwordsIn (now dw) (now by)) at 0) ⌝ }
-    ensures { λ r. ⌜ r ≡ headOf 6 (drop at (dwordsIn (now (dw .entry)) (now (by .entry)))) ⌝ }
+    requires { ⌜ DwordsAt (lent dw by) at 2 d ⌝ }
+    ensures { λ r. ⌜ r ≡ headOf 6 (drop at (lent (dw .entry) (by .entry))) ⌝ }
 {
     [d, word(dw, by, at + 1), 0, 0, 0, 0, 0, 0]
 }
 
 // The own dwords of the command of kind k at a place, whose first dword is d.
 pub fn own_dwords(dw: &[u32], by: &[u8], at: usize, k: u32, d: u32) -> [u32; 8]
-    requires { ⌜ (at + ownDwords k ≤ length (dwordsIn (now dw) (now by))) × (at < 2 ^ 32) × (d ≡ getD (dwordsIn (now dw) (now by)) at 0) ⌝ }
-    ensures { λ r. ⌜ r ≡ headOf k (drop at (dwordsIn (now (dw .entry)) (now (by .entry)))) ⌝ }
+    requires { ⌜ DwordsAt (lent dw by) at (ownDwords k) d ⌝ }
+    ensures { λ r. ⌜ r ≡ headOf k (drop at (lent (dw .entry) (by .entry))) ⌝ }
 {
-    if k == 7 {
-        return object_dwords(dw, by, at, d);
+    match k {
+        7 => object_dwords(dw, by, at, d),
+        3 => vfe_dwords(dw, by, at, d),
+        4 => load_dwords(dw, by, at, d),
+        5 => load_dwords(dw, by, at, d),
+        6 => flush_dwords(dw, by, at, d),
+        _ => [d, 0, 0, 0, 0, 0, 0, 0],
     }
-    if k == 3 {
-        return vfe_dwords(dw, by, at, d);
-    }
-    if k == 4 {
-        return load_dwords(dw, by, at, d);
-    }
-    if k == 5 {
-        return load_dwords(dw, by, at, d);
-    }
-    if k == 6 {
-        return flush_dwords(dw, by, at, d);
-    }
-    [d, 0, 0, 0, 0, 0, 0, 0]
 }

@@ -11,12 +11,12 @@ pub fn start(capacity: u32) -> State
 {
     State {
         capacity,
-        configured: 0,
-        vfe: 0,
-        curbe: 0,
-        count: 0,
-        standing: 0,
-        unflushed: 0,
+        earlier_vfe: 0,
+        vfe_in_force: 0,
+        curbe_in_force: 0,
+        count_loaded: 0,
+        media_since_flush: 0,
+        object_since_flush: 0,
         commands: 0,
         objects: 0,
     }
@@ -29,36 +29,38 @@ pub fn after(k: u32, h: [u32; 8], st: State) -> State
 {
     let mut next = st;
     next.commands = st.commands + 1;
-    if k == 7 {
-        next.standing = 1;
-        next.unflushed = 1;
-        next.objects = st.objects + 1;
-        return next;
+    match k {
+        7 => {
+            next.media_since_flush = 1;
+            next.object_since_flush = 1;
+            next.objects = st.objects + 1;
+            next
+        }
+        1 => {
+            next.media_since_flush = 0;
+            next.object_since_flush = 0;
+            next
+        }
+        3 => {
+            next.earlier_vfe = 1;
+            next.vfe_in_force = st.commands;
+            next.curbe_in_force = h[4] & 0xffff;
+            next.media_since_flush = 1;
+            next
+        }
+        4 => {
+            next.media_since_flush = 1;
+            next
+        }
+        5 => {
+            next.count_loaded = (h[2] & 0x1_ffff) / 32;
+            next.media_since_flush = 1;
+            next
+        }
+        6 => {
+            next.object_since_flush = 0;
+            next
+        }
+        _ => next,
     }
-    if k == 1 {
-        next.standing = 0;
-        next.unflushed = 0;
-        return next;
-    }
-    if k == 3 {
-        next.configured = 1;
-        next.vfe = st.commands;
-        next.curbe = h[4] & 0xffff;
-        next.standing = 1;
-        return next;
-    }
-    if k == 4 {
-        next.standing = 1;
-        return next;
-    }
-    if k == 5 {
-        next.count = (h[2] & 0x1_ffff) / 32;
-        next.standing = 1;
-        return next;
-    }
-    if k == 6 {
-        next.unflushed = 0;
-        return next;
-    }
-    next
 }

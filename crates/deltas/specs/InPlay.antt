@@ -6,6 +6,7 @@ use lib.Bits.{bitAnd}
 use lib.Dec.{eqb}
 use lib.ListN.{length}
 use Rattle.laws.specs.BitRanges.{bits, field}
+use Rattle.command.specs.Fields.{scoreboardUse, scoreboardMask}
 use Rattle.deltas.specs.declared.InPlay.{InPlay}
 
 -- is bit i set?
@@ -38,9 +39,13 @@ setInBoth mask vfeMask = those (λ i. bitSet i mask && bitSet i vfeMask) eight
 unfoldable pub inPlayOf : ℕ → ℕ → ℕ → List ℕ
 inPlayOf own mask vfe5 = cond (usesScoreboard own vfe5) (setInBoth mask (field (bits 7 0) vfe5)) []
 
--- the same by dwords: the own bit is bit 21 of the object's dword 2, its mask bits 7:0 of its dword 5
+-- the own dwords of an OBJECT, of which dwords 2 and 5 are given
+abbrev pub objectHead : ℕ → ℕ → List ℕ
+objectHead object2 object5 = 0 ∷ 0 ∷ object2 ∷ 0 ∷ 0 ∷ object5 ∷ []
+
+-- the same by dwords: the own bit and the mask as an OBJECT has them in its dwords 2 and 5
 abbrev pub inPlay : ℕ → ℕ → ℕ → List ℕ
-inPlay object2 vfe5 object5 = inPlayOf (field (bits 21 21) object2) (field (bits 7 0) object5) vfe5
+inPlay object2 vfe5 object5 = let h = objectHead object2 object5 in inPlayOf (scoreboardUse h) (scoreboardMask h) vfe5
 
 abbrev pub firstOr : ℕ → List ℕ → ℕ
 firstOr n [] = n

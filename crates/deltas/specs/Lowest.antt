@@ -1,5 +1,5 @@
--- The lowest delta by the code's numbers: a mask of eight, and VFE dwords 6 and 7. `lowest-at` of scoreboard/proofs/Lowest.antt shows that it is
--- the lowest delta of the objects.
+-- The lowest delta by the code's numbers: a mask of eight, and VFE dwords 6 and 7. `lowest-at` of runs/proofs/Lowest.antt shows that it
+-- is the lowest delta of the objects.
 use Prim.Native.Nat.{ℕ, _+_, _-_, _%_, _^_}
 use mathlib.Core.Bool.{Bool, _&&_}
 use lib.Dec.{ltb, leb, eqb}
@@ -19,7 +19,9 @@ lowestAt x y mask d6 d7 jx jy = findFirst 8 (leadsAt x y mask d6 d7 jx jy)
 unfoldable pub nearAt : ℕ → ℕ → Bool
 nearAt x to = leb x (to + 8) && ltb to (x + 8)
 
--- The code searches by bytes; `lowest-found` and `lowest-none` of proofs/Bytes.antt show that this finds the same delta. The byte of delta i:
+-- The code searches by bytes; `lowest-found` and `lowest-none` of proofs/Bytes.antt show that this finds the same delta.
+
+-- the byte of delta i
 unfoldable pub deltaByte : ℕ → ℕ → ℕ → ℕ
 deltaByte d6 d7 i = field (bits (byteLow i + 7) (byteLow i)) (deltaDword d6 d7 i)
 

@@ -16,7 +16,7 @@ fn reaches_axis(x: u32, d: i32, to: u32) -> bool
 }
 
 // Both: from the position (x, y) by the delta (dx, dy) to the position (jx, jy).
-pub fn meets(x: u32, y: u32, dx: i32, dy: i32, jx: u32, jy: u32) -> bool
+fn meets(x: u32, y: u32, dx: i32, dy: i32, jx: u32, jy: u32) -> bool
     ensures { λ r. ⌜ r ≡ meetsAt x y dx dy jx jy ⌝ }
 {
     if !reaches_axis(x, dx, jx) {
@@ -60,8 +60,8 @@ fn lowest_byte(mask: u32, d6: u32, d7: u32, byte: u32) -> u32
     8
 }
 
-// Is a coordinate within a delta's reach of another? Most objects are not, and need no more tests. The difference is shifted by 2^32 + 8, so that
-// the compiler makes one test of both.
+// Is a coordinate within a delta's reach of another? Most objects are not, and need no more tests. The difference is shifted by 2^32 + 8,
+// so that the compiler makes one test of both.
 pub fn near(x: u32, to: u32) -> bool
     ensures { λ r. ⌜ r ≡ nearAt x to ⌝ }
 {
@@ -72,8 +72,8 @@ pub fn near(x: u32, to: u32) -> bool
     shifted < 4294967312
 }
 
-// The lowest delta of a mask that leads from (x, y) to (jx, jy), 8 where none does. Modulo 16 one byte alone leads there, and most masks have no
-// such delta; whether one that is found does lead there, the sums decide.
+// The lowest delta of a mask that leads from (x, y) to (jx, jy), 8 where none does. Modulo 16 one byte alone leads there, and most masks
+// have no such delta; whether one that is found does lead there, the sums decide.
 pub fn lowest_delta(x: u32, y: u32, mask: u32, d6: u32, d7: u32, jx: u32, jy: u32) -> u32
     ensures { λ r. ⌜ r ≡ lowestAt x y mask d6 d7 jx jy ⌝ }
 {

@@ -10,7 +10,7 @@ use lib.ListN.{length, getD, set, length-set}
 use lib.Seq.{getD-set-other, set-getD}
 use borrow.Author.Tests.{ne-eqb, eqb-true}
 use Rattle.laws.proofs.Choices.{by-test}
-use Rattle.event.specs.Groups.{groupOf}
+use Rattle.event.specs.Groups.{groupOf, overMembers}
 use Rattle.effects.specs.Effects.{oneMore, notified, groupNotified}
 
 -- ---- one more at a place, or none
@@ -35,18 +35,18 @@ others-kept false cs k j h = refl
 
 module _ (groups : List ℕ) (g : ℕ) (cs : List ℕ) where
   pub groupNotified-long : (n : ℕ) → length (groupNotified n groups g cs) ≡ length cs
-  unfolding groupNotified
+  unfolding overMembers
   groupNotified-long zero = refl
   groupNotified-long (suc n) = as-long (eqb (groupOf groups n) g) (groupNotified n groups g cs) (2 * n) ∙ groupNotified-long n
 
   -- a turn of the loop that pays
   pub groupNotified-turn : (t : ℕ) → cond (eqb (groupOf groups t) g) (oneMore (groupNotified t groups g cs) (2 * t)) (groupNotified t groups g cs) ≡ groupNotified (t + 1) groups g cs
-  unfolding groupNotified
+  unfolding overMembers
   groupNotified-turn t = ap (λ (n : ℕ). groupNotified n groups g cs) (sym (add-one t))
 
   -- who has not had its turn has what it had
   pub groupNotified-later : (n k : ℕ) → 2 * n ≤ k → getD (groupNotified n groups g cs) k 0 ≡ getD cs k 0
-  unfolding groupNotified
+  unfolding overMembers
   groupNotified-later zero k h = refl
   groupNotified-later (suc n) k h = others-kept (eqb (groupOf groups n) g) (groupNotified n groups g cs) (2 * n) k (λ q. omega arith) ∙ groupNotified-later n k (omega arith)
 

@@ -8,7 +8,7 @@ use lib.Seq.{getD-set-same, getD-set-other}
 use Rattle.laws.specs.Filled.{filled}
 use Rattle.laws.proofs.Filled.{filled-long, filled-at, filled-set}
 use Rattle.event.specs.declared.Gateway.{Gateway}
-use Rattle.event.specs.Codes.{closed, gatewayAt}
+use Rattle.event.specs.Gateways.{closed, gatewayAt}
 use Rattle.effects.specs.Gateways.{gatewayIn, gatewaysIn}
 
 pub sixteen-gateways : (words : List ℕ) → length (gatewaysIn words) ≡ 16

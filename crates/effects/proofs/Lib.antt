@@ -1,9 +1,7 @@
 pub mod CountLaws
-pub mod Stores
 pub mod Acks
 pub mod Refused
-pub mod Members
-pub mod Deliveries
-pub mod Arrivals
+pub mod Forwarded
+pub mod Waits
 pub mod LeftAlone
 pub mod GatewayWords

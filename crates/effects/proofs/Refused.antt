@@ -5,17 +5,15 @@ use mathlib.Core.List.{List}
 use Prim.Native.Nat.{ℕ}
 use Rattle.event.specs.declared.Setup.{Setup}
 use Rattle.event.specs.declared.Gateway.{Gateway}
-use Rattle.event.specs.Decision.{Decision, Refused, Open, Close, Forward, Wait, Release, Update}
+use Rattle.event.specs.Decision.{Decision, Refused, OpenOrClose, Forward, Wait, Release, Update}
 use Rattle.event.specs.Outcomes.{outcomeOf}
-use Rattle.effects.specs.Barriers.{waitingAfter}
 use Rattle.effects.specs.Effects.{gatewaysAfter, bytesAfter, waitsAfter, countsAfter, forwarded}
 
 -- what every refusal leaves so, a decision whose outcome is not 0 leaves so
 pub refusal : {A : Type 0} (f : Decision → A) (a : A) → ((n : ℕ) → f (Refused n) ≡ a) → (d : Decision) → (outcomeOf d ≡ 0 → ⊥) → f d ≡ a
 unfolding outcomeOf
 refusal f a r (Refused n) o = r n
-refusal f a r (Open t b z k) o = absurd (o refl)
-refusal f a r (Close t) o = absurd (o refl)
+refusal f a r (OpenOrClose t g) o = absurd (o refl)
 refusal f a r (Forward t b n m) o = absurd (o refl)
 refusal f a r (Wait t) o = absurd (o refl)
 refusal f a r (Release g) o = absurd (o refl)
@@ -37,10 +35,6 @@ module _ (d : Decision) (o : outcomeOf d ≡ 0 → ⊥) where
   pub same-counts : (s : Setup) (cs : List ℕ) → countsAfter d s cs ≡ cs
   unfolding countsAfter
   same-counts s cs = refusal (λ (x : Decision). countsAfter x s cs) cs (λ _. refl) d o
-
-  pub same-waiting : (b : ℕ) (ws : List ℕ) → waitingAfter d b ws ≡ ws
-  unfolding waitingAfter
-  same-waiting b ws = refusal (λ (x : Decision). waitingAfter x b ws) ws (λ _. refl) d o
 
   pub same-registers : (ev rs : List ℕ) → forwarded d ev rs ≡ rs
   unfolding forwarded

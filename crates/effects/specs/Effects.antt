@@ -1,54 +1,32 @@
 -- What an event's decision leaves: document 01, the paragraph below the table of outcomes.
 use mathlib.Core.Path.{_≡_}
-use Prim.Native.Nat.{ℕ, zero, suc, _+_, _*_, _≤_, _<_}
+use Prim.Native.Nat.{ℕ, _+_, _*_, _/_, _%_, _^_, _≤_, _<_}
 use mathlib.Core.Bool.{Bool, true, false, not, cond, _&&_, _||_}
 use mathlib.Core.List.{List}
 use lib.Dec.{eqb}
 use lib.ListN.{length, getD, set, drop}
 use lib.Seq.{paste}
-use Rattle.words.specs.Dwords.{putLe}
 use Rattle.event.specs.declared.Head.{Head}
 use Rattle.event.specs.declared.Setup.{Setup}
 use Rattle.event.specs.declared.Gateway.{Gateway}
-use Rattle.event.specs.Decision.{Decision, Refused, Open, Close, Forward, Wait, Release, Update}
-use Rattle.event.specs.Codes.{closed, opened}
-use Rattle.event.specs.Groups.{groupOf}
+use Rattle.event.specs.Decision.{Decision, onOpenOrClose, onForward, onWait, onRelease, onUpdate}
+use Rattle.event.specs.Groups.{overMembers}
 use Rattle.event.specs.Outcomes.{countedAck}
 
--- "Open sets base, size and key, replacing old ones"; "Close always succeeds."
+-- an open or a close sets its thread's gateway
 unfoldable pub gatewaysAfter : Decision → List Gateway → List Gateway
-gatewaysAfter (Refused n) gs = gs
-gatewaysAfter (Open t b z k) gs = set gs t (opened b z k)
-gatewaysAfter (Close t) gs = set gs t closed
-gatewaysAfter (Forward r a n m) gs = gs
-gatewaysAfter (Wait t) gs = gs
-gatewaysAfter (Release g) gs = gs
-gatewaysAfter (Update b v) gs = gs
+gatewaysAfter d gs = onOpenOrClose d (λ t gateway. set gs t gateway) gs
 
--- "An update sets the barrier byte."
-unfoldable pub bytesAfter : Decision → List ℕ → List ℕ
-bytesAfter (Refused n) bs = bs
-bytesAfter (Open t b z k) bs = bs
-bytesAfter (Close t) bs = bs
-bytesAfter (Forward r a n m) bs = bs
-bytesAfter (Wait t) bs = bs
-bytesAfter (Release g) bs = bs
-bytesAfter (Update b v) bs = set bs b v
+-- "A forward writes its 2^code bytes": those of the event's data, which stands from byte 16 on
+unfoldable pub forwarded : Decision → List ℕ → List ℕ → List ℕ
+forwarded d ev rs = onForward d (λ r start count notify. paste rs start (drop 16 ev) count) rs
 
--- the members of group g among the first n threads wait no more
-unfoldable pub released : ℕ → List ℕ → ℕ → List Bool → List Bool
-released zero groups g waits = waits
-released (suc n) groups g waits = cond (eqb (groupOf groups n) g) (set (released n groups g waits) n false) (released n groups g waits)
-
--- "When every member of a group waits .. all are released."
-unfoldable pub waitsAfter : Decision → Setup → List Bool → List Bool
-waitsAfter (Refused n) s waits = waits
-waitsAfter (Open t b z k) s waits = waits
-waitsAfter (Close t) s waits = waits
-waitsAfter (Forward r a n m) s waits = waits
-waitsAfter (Wait t) s waits = set waits t true
-waitsAfter (Release g) s waits = released (s .threads) (s .groups) g waits
-waitsAfter (Update b v) s waits = waits
+-- n bytes of an event's data stand in rs′ from a on, and all else there is as it is in rs (`written`)
+pub record Written (a n : ℕ) (ev rs rs′ : List ℕ) : Type 0 where
+  pub inside : (j : ℕ) → j < n → getD rs′ (a + j) 0 ≡ getD ev (16 + j) 0
+  pub before : (p : ℕ) → p < a → getD rs′ p 0 ≡ getD rs p 0
+  pub after : (p : ℕ) → a + n ≤ p → getD rs′ p 0 ≡ getD rs p 0
+  pub long : length rs′ ≡ length rs
 
 -- Counts lie "two a thread (N0, then N2)".
 abbrev pub n0 : ℕ → ℕ
@@ -65,50 +43,48 @@ unfoldable pub notified : ℕ → ℕ → List ℕ → List ℕ
 notified r notify cs = cond (eqb notify 1) (oneMore cs (n0 r)) (cond (eqb notify 2) (oneMore cs (n2 r)) cs)
 
 -- "each gets one N0": the members of group g among the first n threads
-unfoldable pub groupNotified : ℕ → List ℕ → ℕ → List ℕ → List ℕ
-groupNotified zero groups g cs = cs
-groupNotified (suc n) groups g cs = cond (eqb (groupOf groups n) g) (oneMore (groupNotified n groups g cs) (n0 n)) (groupNotified n groups g cs)
+abbrev pub groupNotified : ℕ → List ℕ → ℕ → List ℕ → List ℕ
+groupNotified n groups g cs = overMembers n groups g (λ t counts. oneMore counts (n0 t)) cs
 
 unfoldable pub countsAfter : Decision → Setup → List ℕ → List ℕ
-countsAfter (Refused n) s cs = cs
-countsAfter (Open t b z k) s cs = cs
-countsAfter (Close t) s cs = cs
-countsAfter (Forward r a n m) s cs = notified r m cs
-countsAfter (Wait t) s cs = cs
-countsAfter (Release g) s cs = groupNotified (s .threads) (s .groups) g cs
-countsAfter (Update b v) s cs = cs
+countsAfter d s cs =
+    onForward d (λ r start count notify. notified r notify cs)
+    (onRelease d (λ g. groupNotified (s .threads) (s .groups) g cs)
+    cs)
 
--- "A forward writes its 2^code bytes": those of the event's data, which stands from byte 16 on
-unfoldable pub forwarded : Decision → List ℕ → List ℕ → List ℕ
-forwarded (Refused n) ev rs = rs
-forwarded (Open t b z k) ev rs = rs
-forwarded (Close t) ev rs = rs
-forwarded (Forward r a n m) ev rs = paste rs a (drop 16 ev) n
-forwarded (Wait t) ev rs = rs
-forwarded (Release g) ev rs = rs
-forwarded (Update b v) ev rs = rs
+-- "all are released": the members of group g among the first n threads wait no more
+abbrev pub released : ℕ → List ℕ → ℕ → List Bool → List Bool
+released n groups g waits = overMembers n groups g (λ t waiting. set waiting t false) waits
 
--- The acknowledgement is the outcome, as a dword.
-abbrev pub ackOf : ℕ → ℕ
-ackOf outcome = outcome
+-- "When every member of a group waits, each gets one N0 and all are released."
+unfoldable pub waitsAfter : Decision → Setup → List Bool → List Bool
+waitsAfter d s waits =
+    onWait d (λ t. set waits t true)
+    (onRelease d (λ g. released (s .threads) (s .groups) g waits)
+    waits)
+
+-- "An update sets the barrier byte."
+unfoldable pub bytesAfter : Decision → List ℕ → List ℕ
+bytesAfter d bs = onUpdate d (λ barrier byte. set bs barrier byte) bs
 
 -- "a counted ack with outcome not 31 or 32"
 abbrev pub acknowledged : Head → ℕ → Bool
 acknowledged h outcome = countedAck (h .kind) h && not (eqb outcome 31 || eqb outcome 32)
 
--- the dword at the start of a thread's register: 4,096 bytes a thread, 32 a register
+-- "at the start of the sender's ack register": a thread has 4,096 bytes of registers, and a register 32
 abbrev pub ackPlace : Head → ℕ
-ackPlace h = 1024 * h .sender + 8 * h .register
+ackPlace h = 4096 * h .sender + 32 * h .register
+
+-- "as four bytes, low first"
+abbrev pub fourBytes : List ℕ → ℕ → ℕ → List ℕ
+fourBytes rs p v =
+    set (set (set (set rs p (v % 2 ^ 8)) (p + 1) (v / 2 ^ 8 % 2 ^ 8)) (p + 2) (v / 2 ^ 16 % 2 ^ 8)) (p + 3) (v / 2 ^ 24 % 2 ^ 8)
 
 -- "Last, a counted ack with outcome not 31 or 32 writes the outcome as four bytes, low first, at the start of the sender's ack register."
 unfoldable pub withAck : Head → ℕ → List ℕ → List ℕ
-withAck h outcome rs = cond (acknowledged h outcome) (putLe rs (ackPlace h) (ackOf outcome)) rs
+withAck h outcome rs = cond (acknowledged h outcome) (fourBytes rs (ackPlace h) outcome) rs
 
--- What an effect needs: an event of 48 bytes, and lent buffers as long as row 16 leaves them.
-pub record Room (s : Setup) (ev registers counts : List ℕ) : Type 0 where
-  pub few : s .threads ≤ 16
-  pub event : length ev ≡ 48
-  pub own : length registers ≡ 4096 * s .threads
+-- What a notification needs: two counts a thread, of which every one can take one more.
+pub record CountRoom (s : Setup) (counts : List ℕ) : Type 0 where
   pub two : length counts ≡ 2 * s .threads
-  -- every count can take one more
   pub low : (k : ℕ) → getD counts k 0 < 4294967295

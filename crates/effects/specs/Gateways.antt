@@ -4,7 +4,7 @@ use mathlib.Core.List.{List}
 use lib.ListN.{getD, replicate}
 use Rattle.laws.specs.Filled.{filled}
 use Rattle.event.specs.declared.Gateway.{Gateway}
-use Rattle.event.specs.Codes.{closed}
+use Rattle.event.specs.Gateways.{closed}
 
 -- thread t's
 abbrev pub gatewayIn : List ℕ → ℕ → Gateway

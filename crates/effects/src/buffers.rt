@@ -3,7 +3,8 @@ ghost use mathlib.Core.Path.{_≡_};
 ghost use mathlib.Core.Bool.{true, cond};
 ghost use Prim.Native.Nat.{ℕ, _+_, _*_, _≤_, _<_};
 ghost use lib.ListN.{length, getD};
-ghost use Rattle.effects.specs.Effects.{oneMore, notified, groupNotified, acknowledged, ackPlace, withAck};
+ghost use Rattle.event.specs.Groups.{Grouped};
+ghost use Rattle.effects.specs.Effects.{oneMore, notified, groupNotified, acknowledged, ackPlace, withAck, CountRoom};
 use event::Head;
 use event::Setup;
 use event::form::counted_ack;
@@ -37,7 +38,7 @@ pub fn notify(counts: &mut [u32], to: usize, notify: u32)
 
 // Each member of a group gets one N0.
 pub fn notify_group(setup: Setup, group: u8, counts: &mut [u32])
-    requires { ⌜ (setup .threads ≤ 16) × (length (now counts) ≡ 2 * setup .threads) × ((k : ℕ) → getD (now counts) k 0 < 4294967295) ⌝ }
+    requires { ⌜ (Grouped setup) × (CountRoom setup (now counts)) ⌝ }
     ensures { λ _. ⌜ now (counts .exit) ≡ groupNotified (setup .threads) (setup .groups) group (now (counts .entry)) ⌝ }
 {
     let threads = setup.threads;
@@ -51,7 +52,7 @@ pub fn notify_group(setup: Setup, group: u8, counts: &mut [u32])
 
 // The acknowledgement of an event with this head and outcome.
 pub fn acknowledge(h: Head, outcome: u8, registers: &mut [u8])
-    requires { ⌜ (acknowledged h outcome ≡ true → 4 * ackPlace h + 4 ≤ length (now registers)) ⌝ }
+    requires { ⌜ (acknowledged h outcome ≡ true → ackPlace h + 4 ≤ length (now registers)) ⌝ }
     ensures { λ _. ⌜ now (registers .exit) ≡ withAck h outcome (now (registers .entry)) ⌝ }
 {
     if !counted_ack(h) {

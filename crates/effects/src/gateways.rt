@@ -1,10 +1,10 @@
 // The gateways, four words a thread, and the messages that open and close them.
 ghost use mathlib.Core.Path.{_≡_};
-ghost use mathlib.Core.List.{[]};
 ghost use Prim.Native.Nat.{_*_, _<_, _≤_};
 ghost use lib.ListN.{length, set};
-ghost use Rattle.event.specs.Codes.{closed, gatewayAt};
-ghost use Rattle.event.specs.Outcomes.{decisionOf, outcomeOf};
+ghost use Rattle.event.specs.Gateways.{gatewayAt};
+ghost use Rattle.event.specs.Outcomes.{outcomeOf};
+ghost use Rattle.event.specs.ByKind.{decisionAlone};
 ghost use Rattle.effects.specs.Effects.{gatewaysAfter, withAck};
 ghost use Rattle.effects.specs.Gateways.{gatewaysIn};
 use crate::buffers::acknowledge;
@@ -47,8 +47,11 @@ fn set_gateway(words: &mut [u32], t: usize, gate: Gateway)
 
 // An open or a close: its outcome, with what it leaves.
 pub fn open_or_close(h: Head, setup: Setup, words: &mut [u32], registers: &mut [u8]) -> u8
-    requires { ⌜ (h .kind < 2) × (setup .threads ≤ 16) × (length (now words) ≡ 64) × (length (now registers) ≡ 4096 * setup .threads) ⌝ }
-    ensures { λ r. ⌜ (r ≡ outcomeOf (decisionOf h setup closed [])) × (gatewaysIn (now (words .exit)) ≡ gatewaysAfter (decisionOf h setup closed []) (gatewaysIn (now (words .entry)))) × (now (registers .exit) ≡ withAck h r (now (registers .entry))) ⌝ }
+    requires { ⌜ (h .kind < 2) × (setup .threads ≤ 16) × (length (now words) ≡ 64)
+        × (length (now registers) ≡ 4096 * setup .threads) ⌝ }
+    ensures { λ r. ⌜ (r ≡ outcomeOf (decisionAlone h setup))
+        × (gatewaysIn (now (words .exit)) ≡ gatewaysAfter (decisionAlone h setup) (gatewaysIn (now (words .entry))))
+        × (now (registers .exit) ≡ withAck h r (now (registers .entry))) ⌝ }
 {
     let number = gateway_outcome(h, setup);
     acknowledge(h, number, registers);

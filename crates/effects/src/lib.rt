@@ -1,6 +1,3 @@
-// What an event does to the gateways, the barriers, the registers and the counts.
-pub mod barriers;
-pub mod blocks;
+// What an event leaves in the gateways, the counts and the registers, but for a forward's bytes (crate forwards).
 pub mod buffers;
-pub mod forwards;
 pub mod gateways;

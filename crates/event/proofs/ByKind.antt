@@ -10,7 +10,7 @@ use Rattle.laws.proofs.Choices.{by-test}
 use Rattle.event.specs.declared.Head.{Head}
 use Rattle.event.specs.declared.Setup.{Setup}
 use Rattle.event.specs.declared.Gateway.{Gateway}
-use Rattle.event.specs.Outcomes.{countedAck, malformed, ruledOf, decidedOf, decisionOf, outcomeOf}
+use Rattle.event.specs.Outcomes.{Unserved, countedAck, malformed, ruledOf, decidedOf, decisionOf, outcomeOf}
 use Rattle.event.proofs.Formed.{formed-kind}
 use Rattle.event.proofs.Rules.{left-over}
 use Rattle.event.proofs.Reach.{decided-31, decided-formed}
@@ -35,14 +35,18 @@ module _ (h : Head) (s : Setup) where
   unfolding decisionOf decidedOf
   other-same g g′ ws ws′ n2 n4 = simp (ne-eqb (h .kind) 2 n2, ne-eqb (h .kind) 4 n4)
 
+  -- no gateway is to what is no forward
+  pub gate-same : (g g′ : Gateway) (ws : List Bool) → (h .kind ≡ 2 → ⊥) → decisionOf h s g ws ≡ decisionOf h s g′ ws
+  unfolding decisionOf decidedOf
+  gate-same g g′ ws n = simp (ne-eqb (h .kind) 2 n)
+
   -- a kind that is not served is refused
-  pub other-refused : (g : Gateway) (ws : List Bool) → (h .kind ≡ 0 → ⊥) → (h .kind ≡ 1 → ⊥) → (h .kind ≡ 2 → ⊥) → (h .kind ≡ 4 → ⊥) → (h .kind ≡ 5 → ⊥)
-      → outcomeOf (decisionOf h s g ws) ≡ 0 → ⊥
+  pub other-refused : (g : Gateway) (ws : List Bool) → Unserved (h .kind) → outcomeOf (decisionOf h s g ws) ≡ 0 → ⊥
   unfolding outcomeOf
-  other-refused g ws n0 n1 n2 n4 n5 o =
+  other-refused g ws n o =
       by-test (malformed (h .kind) h (s .threads))
       (λ f. omega (arith, outcome-31 g ws f))
-      (λ f. omega (arith, ap outcomeOf (left-over (h .kind) h s g ws (formed-kind (h .kind) h (s .threads) f) n2 n4 n0 n1 n5 ∙ sym (decided-formed h s g ws f))))
+      (λ f. omega (arith, ap outcomeOf (left-over (h .kind) h s g ws (formed-kind (h .kind) h (s .threads) f) n ∙ sym (decided-formed h s g ws f))))
 
   -- and its acknowledgement does not count, nor an update's
   pub uncounted : (h .kind ≡ 0 → ⊥) → (h .kind ≡ 1 → ⊥) → (h .kind ≡ 2 → ⊥) → (h .kind ≡ 4 → ⊥) → countedAck (h .kind) h ≡ false

@@ -1,6 +1,8 @@
 pub mod Tests
 pub mod Taken
+pub mod Decisions
 pub mod Formed
+pub mod Groups
 pub mod Waiting
 pub mod Rules
 pub mod Reach

@@ -5,20 +5,22 @@ use mathlib.Core.List.{List}
 use Prim.Native.Nat.{ℕ, _+_, _*_, _^_, _≤_, _<_}
 use native.Mathlib.Omega.{arith}
 use lib.Dec.{ltb, leb, eqb}
-use lib.ListN.{set}
 use lib.Pow.{pow-mono}
-use borrow.Author.Tests.{ltb-false, leb-false, eqb-true, eqb-false}
+use borrow.Author.Tests.{ltb-false, leb-false, eqb-false}
 use Rattle.laws.proofs.Choices.{by-cond, by-test}
 use Rattle.event.specs.declared.Head.{Head}
 use Rattle.event.specs.declared.Setup.{Setup}
 use Rattle.event.specs.declared.Gateway.{Gateway}
 use Rattle.event.specs.Decision.{Decision, Refused}
-use Rattle.event.specs.Codes.{Window}
-use Rattle.event.specs.Groups.{groupOf, waitsOf, wholeOf}
+use Rattle.event.specs.Gateways.{closed, Window}
+use Rattle.event.specs.Groups.{noGroup, waitsOf, ownGroup, wholeWith}
 use Rattle.event.specs.Outcomes.{ends, bypassed, malformed, ruledOf, decidedOf, decisionOf, outcomeOf}
 use Rattle.event.specs.Within.{Within}
 use Rattle.event.proofs.Formed.{formed-kind, formed-sender, forward-code, open-code, update-barrier}
-use Rattle.event.proofs.Rules.{left-over}
+use Rattle.event.proofs.Rules.{left-over, by-kind}
+
+pub closed-window : Window closed
+closed-window = record { code = omega arith; fits = omega arith }
 
 module _ (h : Head) (s : Setup) (g : Gateway) (waits : List Bool) where
   abbrev P : Decision → Type 0
@@ -33,13 +35,13 @@ module _ (h : Head) (s : Setup) (g : Gateway) (waits : List Bool) where
   open-within f =
       by-cond P (bypassed s) _ _ (λ _. (omega arith, omega arith)) λ _.
       by-test (ends h)
-      (λ e. simp e (formed-sender 0 h (s .threads) f))
+      (λ e. simp e (formed-sender 0 h (s .threads) f, closed-window))
       (λ e. simp e (by-cond P (ltb 128 (h .place + 2 ^ h .code)) _ _ (λ _. (omega arith, omega arith)) λ q.
       (formed-sender 0 h (s .threads) f, record { code = open-code h (s .threads) f (eqb-false _ _ e); fits = ltb-false 128 (h .place + 2 ^ h .code) q })))
 
   close-within : malformed 1 h (s .threads) ≡ false → P (ruledOf 1 h s g waits)
   unfolding ruledOf Within
-  close-within f = by-cond P (bypassed s) _ _ (λ _. (omega arith, omega arith)) λ _. formed-sender 1 h (s .threads) f
+  close-within f = by-cond P (bypassed s) _ _ (λ _. (omega arith, omega arith)) λ _. (formed-sender 1 h (s .threads) f, closed-window)
 
   forward-within : Window g → malformed 2 h (s .threads) ≡ false → P (ruledOf 2 h s g waits)
   unfolding ruledOf Within
@@ -60,9 +62,9 @@ module _ (h : Head) (s : Setup) (g : Gateway) (waits : List Bool) where
   barrier-within : malformed 4 h (s .threads) ≡ false → P (ruledOf 4 h s g waits)
   unfolding ruledOf Within
   barrier-within f =
-      by-cond P (eqb (groupOf (s .groups) (h .sender)) 255) _ _ (λ _. (omega arith, omega arith)) λ _.
+      by-cond P (eqb (ownGroup h s) noGroup) _ _ (λ _. (omega arith, omega arith)) λ _.
       by-cond P (waitsOf waits (h .sender)) _ _ (λ _. (omega arith, omega arith)) λ _.
-      by-cond P (wholeOf s (groupOf (s .groups) (h .sender)) (set waits (h .sender) true)) _ _ (λ _. tt) λ _. formed-sender 4 h (s .threads) f
+      by-cond P (wholeWith h s waits) _ _ (λ _. tt) λ _. formed-sender 4 h (s .threads) f
 
   update-within : malformed 5 h (s .threads) ≡ false → P (ruledOf 5 h s g waits)
   unfolding ruledOf Within
@@ -73,14 +75,9 @@ module _ (h : Head) (s : Setup) (g : Gateway) (waits : List Bool) where
   OfKind k = malformed k h (s .threads) ≡ false → P (ruledOf k h s g waits)
 
   ruled-within : Window g → (k : ℕ) → OfKind k
-  ruled-within v k f =
-      by-test (eqb k 2) (λ q. subst OfKind (sym (eqb-true k 2 q)) (forward-within v) f) λ n2.
-      by-test (eqb k 4) (λ q. subst OfKind (sym (eqb-true k 4 q)) barrier-within f) λ n4.
-      by-test (eqb k 0) (λ q. subst OfKind (sym (eqb-true k 0 q)) open-within f) λ n0.
-      by-test (eqb k 1) (λ q. subst OfKind (sym (eqb-true k 1 q)) close-within f) λ n1.
-      by-test (eqb k 5) (λ q. subst OfKind (sym (eqb-true k 5 q)) update-within f) λ n5.
-      subst P (left-over k h s g waits (formed-kind k h (s .threads) f) (eqb-false k 2 n2) (eqb-false k 4 n4) (eqb-false k 0 n0) (eqb-false k 1 n1) (eqb-false k 5 n5))
-      (refused 32 (omega arith) (omega arith))
+  ruled-within v k =
+      by-kind OfKind open-within close-within (forward-within v) barrier-within update-within k
+      (λ n f. subst P (left-over k h s g waits (formed-kind k h (s .threads) f) n) (refused 32 (omega arith) (omega arith)))
 
   -- the decision, by whether the event is malformed
   pub decided-31 : malformed (h .kind) h (s .threads) ≡ true → decisionOf h s g waits ≡ Refused 31

@@ -5,17 +5,16 @@ use mathlib.Core.List.{List}
 use Prim.Native.Nat.{ℕ, _+_, _*_, _^_, _≤_}
 use native.Mathlib.Omega.{arith}
 use lib.Dec.{ltb, leb, eqb}
-use lib.ListN.{set}
-use borrow.Author.Tests.{eqb-true, eqb-false}
+use borrow.Author.Tests.{eqb-false}
 use Rattle.laws.proofs.Choices.{by-cond, by-test}
 use Rattle.event.specs.declared.Head.{Head}
 use Rattle.event.specs.declared.Setup.{Setup}
 use Rattle.event.specs.declared.Gateway.{Gateway}
-use Rattle.event.specs.Decision.{Decision, Refused, Open, Close, Forward, Wait, Release, Update}
-use Rattle.event.specs.Groups.{waitsOf, ownGroup, wholeWith}
-use Rattle.event.specs.Outcomes.{ends, bypassed, windowStart, forwardStart, malformed, ruledOf, decisionOf}
+use Rattle.event.specs.Decision.{Decision, Refused, OpenOrClose, Forward, Wait, Release, Update}
+use Rattle.event.specs.Groups.{noGroup, waitsOf, ownGroup, wholeWith}
+use Rattle.event.specs.Outcomes.{ends, bypassed, forwardStart, malformed, ruledOf, decisionOf}
 use Rattle.event.proofs.Formed.{formed-kind}
-use Rattle.event.proofs.Rules.{left-over}
+use Rattle.event.proofs.Rules.{left-over, by-kind}
 use Rattle.event.proofs.Reach.{decided-31, decided-formed}
 
 -- what an event of kind k with this head must be, for a decision to be its own
@@ -28,14 +27,13 @@ pub record Forwards (k : ℕ) (h : Head) (s : Setup) (g : Gateway) (r a n m : �
 
 pub record Arrives (k : ℕ) (h : Head) (s : Setup) (waits : List Bool) (whole : Bool) : Type 0 where
   pub kind : k ≡ 4
-  pub group : ownGroup h s ≡ 255 → ⊥
+  pub group : ownGroup h s ≡ noGroup → ⊥
   pub new : waitsOf waits (h .sender) ≡ false
   pub then : wholeWith h s waits ≡ whole
 
 unfoldable pub Source : ℕ → Head → Setup → Gateway → List Bool → Decision → Type 0
 Source k h s g waits (Refused n) = Unit {0}
-Source k h s g waits (Open t b z y) = k ≡ 0
-Source k h s g waits (Close t) = k ≤ 1
+Source k h s g waits (OpenOrClose t g′) = k ≤ 1
 Source k h s g waits (Forward r a n m) = Forwards k h s g r a n m
 Source k h s g waits (Wait t) = (t ≡ h .sender) × Arrives k h s waits false
 Source k h s g waits (Release b) = (b ≡ ownGroup h s) × Arrives k h s waits true
@@ -51,7 +49,7 @@ module _ (h : Head) (s : Setup) (g : Gateway) (waits : List Bool) where
       by-cond (Source 0 h s g waits) (bypassed s) _ _ (λ _. tt) λ _.
       by-test (ends h)
       (λ e. simp e (omega arith))
-      (λ e. simp e (by-cond (Source 0 h s g waits) (ltb 128 (h .place + 2 ^ h .code)) _ _ (λ _. tt) λ _. refl))
+      (λ e. simp e (by-cond (Source 0 h s g waits) (ltb 128 (h .place + 2 ^ h .code)) _ _ (λ _. tt) λ _. omega arith))
 
   close-source : OfKind 1
   unfolding ruledOf Source
@@ -72,11 +70,11 @@ module _ (h : Head) (s : Setup) (g : Gateway) (waits : List Bool) where
   barrier-source : OfKind 4
   unfolding ruledOf Source
   barrier-source =
-      by-cond (Source 4 h s g waits) (eqb (ownGroup h s) 255) _ _ (λ _. tt) λ n.
+      by-cond (Source 4 h s g waits) (eqb (ownGroup h s) noGroup) _ _ (λ _. tt) λ n.
       by-cond (Source 4 h s g waits) (waitsOf waits (h .sender)) _ _ (λ _. tt) λ w.
       by-cond (Source 4 h s g waits) (wholeWith h s waits) _ _
-      (λ e. (refl, record { kind = refl; group = eqb-false (ownGroup h s) 255 n; new = w; then = e }))
-      (λ e. (refl, record { kind = refl; group = eqb-false (ownGroup h s) 255 n; new = w; then = e }))
+      (λ e. (refl, record { kind = refl; group = eqb-false (ownGroup h s) noGroup n; new = w; then = e }))
+      (λ e. (refl, record { kind = refl; group = eqb-false (ownGroup h s) noGroup n; new = w; then = e }))
 
   update-source : OfKind 5
   unfolding ruledOf Source
@@ -88,12 +86,8 @@ module _ (h : Head) (s : Setup) (g : Gateway) (waits : List Bool) where
 
   ruled-source : (k : ℕ) → k ≤ 6 → OfKind k
   ruled-source k most =
-      by-test (eqb k 2) (λ q. subst OfKind (sym (eqb-true k 2 q)) forward-source) λ n2.
-      by-test (eqb k 4) (λ q. subst OfKind (sym (eqb-true k 4 q)) barrier-source) λ n4.
-      by-test (eqb k 0) (λ q. subst OfKind (sym (eqb-true k 0 q)) open-source) λ n0.
-      by-test (eqb k 1) (λ q. subst OfKind (sym (eqb-true k 1 q)) close-source) λ n1.
-      by-test (eqb k 5) (λ q. subst OfKind (sym (eqb-true k 5 q)) update-source) λ n5.
-      subst (Source k h s g waits) (left-over k h s g waits most (eqb-false k 2 n2) (eqb-false k 4 n4) (eqb-false k 0 n0) (eqb-false k 1 n1) (eqb-false k 5 n5)) (refused k 32)
+      by-kind OfKind open-source close-source forward-source barrier-source update-source k
+      (λ n. subst (Source k h s g waits) (left-over k h s g waits most n) (refused k 32))
 
   pub decision-source : Source (h .kind) h s g waits (decisionOf h s g waits)
   decision-source =

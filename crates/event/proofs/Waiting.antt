@@ -7,12 +7,12 @@ use native.Mathlib.Omega.{arith}
 use lib.Dec.{eqb}
 use borrow.Author.Tests.{eq-eqb, eqb-true, eqb-false}
 use Rattle.laws.proofs.Choices.{by-cond, by-test}
-use Rattle.event.specs.Groups.{groupOf, waitsOf, allWait}
+use Rattle.event.specs.Groups.{groupOf, waitsOf, overMembers, allWait}
 
 module _ (groups : List ℕ) (g : ℕ) (waits : List Bool) where
   -- a member that does not wait
   pub one-missing : (n i : ℕ) → i < n → groupOf groups i ≡ g → waitsOf waits i ≡ false → allWait n groups g waits ≡ false
-  unfolding allWait
+  unfolding overMembers
   one-missing zero i h e f = absurd (omega arith)
   one-missing (suc n) i h e f =
       by-test (eqb i n)

@@ -1,7 +1,8 @@
 -- An event's outcome: document 01, the table "Outcome | Exactly when, in order". It goes by the event's head, the header's setup, the
 -- recipient's gateway and who waits.
+use mathlib.Core.Path.{_≡_}
 use Prim.Native.Nat.{ℕ, _+_, _*_}
-use mathlib.Core.Bool.{Bool, true, not, cond, _&&_, _||_}
+use mathlib.Core.Bool.{Bool, not, cond, _&&_, _||_}
 use mathlib.Core.List.{List, [], _∷_}
 use lib.Dec.{ltb, leb, eqb}
 use Rattle.laws.specs.Rows.{Row, row, firstRow}
@@ -9,8 +10,9 @@ use Rattle.laws.specs.AnyOf.{anyOf}
 use Rattle.event.specs.declared.Head.{Head}
 use Rattle.event.specs.declared.Setup.{Setup}
 use Rattle.event.specs.declared.Gateway.{Gateway}
-use Rattle.event.specs.Decision.{Decision, Refused, Open, Close, Forward, Wait, Release, Update}
+use Rattle.event.specs.Decision.{Decision, Refused, OpenOrClose, Forward, Wait, Release, Update, onRefused}
 use Rattle.event.specs.Codes.{countOf}
+use Rattle.event.specs.Gateways.{closed, opened}
 use Rattle.event.specs.Groups.{noGroup, waitsOf, ownGroup, wholeWith}
 
 -- Kinds: "004's SubFuncID", with the names that 004 gives. k is the head's kind, passed on its own so that a law can go by kind.
@@ -41,6 +43,14 @@ isUpdate k = eqb k 5
 -- MMIO Read/Write
 abbrev pub isMmio : ℕ → Bool
 isMmio k = eqb k 6
+
+-- any other kind: not served, or none
+pub record Unserved (k : ℕ) : Type 0 where
+  pub no-open : k ≡ 0 → ⊥
+  pub no-close : k ≡ 1 → ⊥
+  pub no-forward : k ≡ 2 → ⊥
+  pub no-barrier : k ≡ 4 → ⊥
+  pub no-update : k ≡ 5 → ⊥
 
 abbrev pub ends : Head → Bool
 ends h = eqb (h .ending) 1
@@ -98,20 +108,20 @@ faults k h threads =
 unfoldable pub malformed : ℕ → Head → ℕ → Bool
 malformed k h threads = anyOf (faults k h threads)
 
--- The window of a forward, in bytes from its thread's first register: "32 x base" on, "Under bypass base is 0"; "32 x 2^size code" long, under
--- bypass "the limit in 37 is 4,096".
+-- The window of a forward, in bytes from its thread's first register: "32 x base" on, "Under bypass base is 0"; "32 x 2^size code" long,
+-- under bypass "the limit in 37 is 4,096".
 abbrev pub windowStart : Setup → Gateway → ℕ
 windowStart s g = cond (bypassed s) 0 (32 * g .base)
 
 abbrev pub windowLimit : Setup → Gateway → ℕ
 windowLimit s g = cond (bypassed s) 4096 (32 * countOf (g .size))
 
--- an outcome has no place
-abbrev pub when : ℕ → Bool → Row
-when n t = row n 0 t
+-- a row refuses with its number
+abbrev pub when : ℕ → Bool → Row Decision
+when n t = row (Refused n) t
 
 -- Rows 32 to 39 of an event of kind k that is not malformed: g is the gateway of the thread in byte 4.
-abbrev pub ruleRows : ℕ → Head → Setup → Gateway → List Bool → List Row
+abbrev pub ruleRows : ℕ → Head → Setup → Gateway → List Bool → List (Row Decision)
 ruleRows k h s g waits =
     -- 32: "kind 3 or 6; kind 0 or 1 under bypass"
     when 32 (isTimestamp k || isMmio k)
@@ -130,9 +140,10 @@ ruleRows k h s g waits =
     ∷ when 39 (isBarrier k && waitsOf waits (h .sender))
     ∷ []
 
--- "Open sets base, size and key, replacing old ones; with end-of-thread it closes instead"
-abbrev pub opensOrEnds : Head → Decision
-opensOrEnds h = cond (ends h) (Close (h .sender)) (Open (h .sender) (h .place) (h .code) (h .key))
+-- The sender's gateway after an open or a close: "Open sets base, size and key, replacing old ones; with end-of-thread it closes instead
+-- .. Close always succeeds."
+abbrev pub gatewayLeft : ℕ → Head → Gateway
+gatewayLeft k h = cond (opens k h) (opened (h .place) (h .code) (h .key)) closed
 
 -- "A forward writes its 2^code bytes at 32 x base + offset of the recipient"; a thread has 4,096 bytes of registers
 abbrev pub forwardStart : Head → Setup → Gateway → ℕ
@@ -145,35 +156,26 @@ forwards h s g = Forward (h .target) (forwardStart h s g) (countOf (h .code)) (h
 abbrev pub arrives : Head → Setup → List Bool → Decision
 arrives h s waits = cond (wholeWith h s waits) (Release (ownGroup h s)) (Wait (h .sender))
 
--- What an event does that no row refuses. "An update sets the barrier byte."
+-- What an event does that no row refuses. "An update sets the barrier byte." No other kind is served: row 32 stands before this.
 abbrev pub accepted : ℕ → Head → Setup → Gateway → List Bool → Decision
 accepted k h s g waits =
-    cond (isOpen k) (opensOrEnds h)
-    (cond (isClose k) (Close (h .sender))
+    cond (isOpen k || isClose k) (OpenOrClose (h .sender) (gatewayLeft k h))
     (cond (isForward k) (forwards h s g)
     (cond (isBarrier k) (arrives h s waits)
-    (Update (h .target) (h .code)))))
-
-abbrev pub refused : ℕ → ℕ → Decision
-refused number place = Refused number
+    (cond (isUpdate k) (Update (h .target) (h .code))
+    (Refused 32))))
 
 -- rows 32 to 39, of an event that is not malformed: the first that holds decides
 unfoldable pub ruledOf : ℕ → Head → Setup → Gateway → List Bool → Decision
-ruledOf k h s g waits = firstRow refused (accepted k h s g waits) (ruleRows k h s g waits)
+ruledOf k h s g waits = firstRow (accepted k h s g waits) (ruleRows k h s g waits)
 
 -- 31 before them
 unfoldable pub decidedOf : ℕ → Head → Setup → Gateway → List Bool → Decision
-decidedOf k h s g waits = firstRow refused (accepted k h s g waits) (when 31 (malformed k h (s .threads)) ∷ ruleRows k h s g waits)
+decidedOf k h s g waits = firstRow (accepted k h s g waits) (when 31 (malformed k h (s .threads)) ∷ ruleRows k h s g waits)
 
 unfoldable pub decisionOf : Head → Setup → Gateway → List Bool → Decision
 decisionOf h s g waits = decidedOf (h .kind) h s g waits
 
 -- the paper's number of a decision: 0 where it is no refusal
 unfoldable pub outcomeOf : Decision → ℕ
-outcomeOf (Refused n) = n
-outcomeOf (Open t b z k) = 0
-outcomeOf (Close t) = 0
-outcomeOf (Forward r a n m) = 0
-outcomeOf (Wait t) = 0
-outcomeOf (Release g) = 0
-outcomeOf (Update b v) = 0
+outcomeOf d = onRefused d (λ n. n) 0

@@ -1,11 +1,11 @@
-// The outcome of an event, by its kind: the number of the rule that refuses it, or 0. A barrier message's needs who waits, and is decided where
-// that is kept (`barriers::arrive`, crate effects).
+// The outcome of an event, by its kind: the number of the rule that refuses it, or 0. A barrier message's needs who waits, and is decided
+// where that is kept (crate barriers).
 ghost use mathlib.Core.Path.{_≡_};
-ghost use mathlib.Core.List.{[]};
 ghost use Prim.Native.Nat.{_<_, _≤_};
-ghost use Rattle.event.specs.Codes.{closed, countOf, Window};
-ghost use Rattle.event.specs.Outcomes.{decisionOf, outcomeOf};
-ghost use Rattle.event.specs.Gateways.{gatewayLeft};
+ghost use Rattle.event.specs.Codes.{countOf};
+ghost use Rattle.event.specs.Gateways.{Window};
+ghost use Rattle.event.specs.Outcomes.{Unserved, gatewayLeft, outcomeOf};
+ghost use Rattle.event.specs.ByKind.{decisionThrough, decisionAlone};
 use crate::Gateway;
 use crate::Head;
 use crate::Setup;
@@ -19,11 +19,11 @@ pub fn count(code: u32) -> u32
     1u32 << code
 }
 
-// A forward's. Who waits is no matter to it (`forward-same`).
+// A forward's.
 pub fn forward_outcome(h: Head, setup: Setup, gate: Gateway) -> u8
     requires { ⌜ h .kind ≡ 2 ⌝ }
     requires { ⌜ Window gate ⌝ }
-    ensures { λ r. ⌜ r ≡ outcomeOf (decisionOf h setup gate []) ⌝ }
+    ensures { λ r. ⌜ r ≡ outcomeOf (decisionThrough h setup gate) ⌝ }
 {
     if is_malformed(h, setup.threads) {
         return 31;
@@ -51,7 +51,7 @@ pub fn forward_outcome(h: Head, setup: Setup, gate: Gateway) -> u8
 
 fn open_outcome(h: Head, setup: Setup) -> u8
     requires { ⌜ h .kind ≡ 0 ⌝ }
-    ensures { λ r. ⌜ r ≡ outcomeOf (decisionOf h setup closed []) ⌝ }
+    ensures { λ r. ⌜ r ≡ outcomeOf (decisionAlone h setup) ⌝ }
 {
     if is_malformed(h, setup.threads) {
         return 31;
@@ -70,7 +70,7 @@ fn open_outcome(h: Head, setup: Setup) -> u8
 
 fn close_outcome(h: Head, setup: Setup) -> u8
     requires { ⌜ h .kind ≡ 1 ⌝ }
-    ensures { λ r. ⌜ r ≡ outcomeOf (decisionOf h setup closed []) ⌝ }
+    ensures { λ r. ⌜ r ≡ outcomeOf (decisionAlone h setup) ⌝ }
 {
     if is_malformed(h, setup.threads) {
         return 31;
@@ -81,10 +81,10 @@ fn close_outcome(h: Head, setup: Setup) -> u8
     0
 }
 
-// An open's or a close's. Neither another gateway nor who waits is of any matter to it (`other-same`).
+// An open's or a close's.
 pub fn gateway_outcome(h: Head, setup: Setup) -> u8
     requires { ⌜ h .kind < 2 ⌝ }
-    ensures { λ r. ⌜ r ≡ outcomeOf (decisionOf h setup closed []) ⌝ }
+    ensures { λ r. ⌜ r ≡ outcomeOf (decisionAlone h setup) ⌝ }
 {
     if h.kind == 0 {
         return open_outcome(h, setup);
@@ -117,7 +117,7 @@ pub fn gateway_left(h: Head) -> Gateway
 // An update's.
 pub fn update_outcome(h: Head, setup: Setup) -> u8
     requires { ⌜ h .kind ≡ 5 ⌝ }
-    ensures { λ r. ⌜ r ≡ outcomeOf (decisionOf h setup closed []) ⌝ }
+    ensures { λ r. ⌜ r ≡ outcomeOf (decisionAlone h setup) ⌝ }
 {
     if is_malformed(h, setup.threads) {
         return 31;
@@ -127,8 +127,8 @@ pub fn update_outcome(h: Head, setup: Setup) -> u8
 
 // The outcome of a kind that is not served, or is none.
 pub fn other_outcome(h: Head, setup: Setup) -> u8
-    requires { ⌜ (h .kind ≡ 0 → ⊥) × (h .kind ≡ 1 → ⊥) × (h .kind ≡ 2 → ⊥) × (h .kind ≡ 4 → ⊥) × (h .kind ≡ 5 → ⊥) ⌝ }
-    ensures { λ r. ⌜ r ≡ outcomeOf (decisionOf h setup closed []) ⌝ }
+    requires { ⌜ Unserved (h .kind) ⌝ }
+    ensures { λ r. ⌜ r ≡ outcomeOf (decisionAlone h setup) ⌝ }
 {
     if is_malformed(h, setup.threads) {
         return 31;

@@ -1,5 +1,5 @@
 -- What holds after every event: each gateway's window lies in its thread's registers, and no count is above the number of events. Assumes nothing.
-use mathlib.Core.Path.{_≡_}
+use mathlib.Core.Path.{_≡_, subst}
 use mathlib.Core.List.{List, [], _∷_}
 use Prim.Native.Nat.{ℕ, zero, suc, _+_, _*_, _≤_, _<_}
 use native.Mathlib.Omega.{arith}
@@ -8,15 +8,17 @@ use lib.ListN.{getD, set, replicate}
 use Rattle.laws.proofs.Choices.{by-cond}
 use Rattle.event.specs.declared.Setup.{Setup}
 use Rattle.event.specs.declared.Gateway.{Gateway}
-use Rattle.event.specs.Decision.{Decision, Refused, Open, Close, Forward, Wait, Release, Update}
+use Rattle.event.specs.Decision.{Decision}
 use Rattle.event.specs.Head.{headOf}
-use Rattle.event.specs.Codes.{closed, gatewayAt, Window}
-use Rattle.event.specs.Groups.{groupOf}
+use Rattle.event.specs.Gateways.{closed, gatewayAt, Window}
+use Rattle.event.specs.Groups.{groupOf, overMembers}
 use Rattle.event.specs.Within.{Within}
-use Rattle.event.proofs.Reach.{decision-within}
-use Rattle.gateway.specs.Recording.{eventAt}
+use Rattle.event.proofs.Decisions.{by-open-or-close, by-forward, by-release}
+use Rattle.event.proofs.Reach.{closed-window, decision-within}
+use Rattle.recording.specs.Recording.{eventAt}
 use Rattle.effects.specs.Effects.{gatewaysAfter, notified, groupNotified, countsAfter}
 use Rattle.gateway.specs.Replay.{World, decisionIn, stepOf, runOf}
+use Rattle.barriers.proofs.Waits.{replicated}
 use Rattle.effects.proofs.CountLaws.{groupNotified-later}
 
 -- what holds of each element, and of the default, holds after a store of what it holds of
@@ -27,31 +29,17 @@ all-set P (x ∷ xs) d zero v h p (suc i) = h (suc i)
 all-set P (x ∷ xs) d (suc w) v h p zero = h zero
 all-set P (x ∷ xs) d (suc w) v h p (suc i) = all-set P xs d w v (λ k. h (suc k)) p i
 
-all-replicate : {A : Type 0} (P : A → Type 0) (d : A) (n : ℕ) → P d → (i : ℕ) → P (getD (replicate n d) i d)
-all-replicate P d zero p i = p
-all-replicate P d (suc n) p zero = p
-all-replicate P d (suc n) p (suc i) = all-replicate P d n p i
-
 -- ---- windows
 
 abbrev pub Windows : List Gateway → Type 0
 Windows gs = (t : ℕ) → Window (gatewayAt gs t)
 
-pub closed-window : Window closed
-closed-window = record { code = omega arith; fits = omega arith }
-
 pub start-windows : Windows (replicate 16 closed)
-start-windows t = all-replicate Window closed 16 closed-window t
+start-windows t = rw (replicated closed 16 t) closed-window
 
 windows-after : (s : Setup) (d : Decision) (gs : List Gateway) → Within s d → Windows gs → Windows (gatewaysAfter d gs)
 unfolding Within gatewaysAfter
-windows-after s (Refused n) gs w v = v
-windows-after s (Open t b z k) gs w v = all-set Window gs closed t _ v (w .1)
-windows-after s (Close t) gs w v = all-set Window gs closed t _ v closed-window
-windows-after s (Forward r a n m) gs w v = v
-windows-after s (Wait t) gs w v = v
-windows-after s (Release g) gs w v = v
-windows-after s (Update b v′) gs w v = v
+windows-after s d gs w v = by-open-or-close Windows d _ gs (λ t g e. all-set Window gs closed t g v (subst (Within s) e w .1)) v
 
 module _ (rec : List ℕ) (s : Setup) where
   pub run-windows : (n : ℕ) (w : World) → Windows (w .state .gateways) → Windows (runOf rec s n w .state .gateways)
@@ -85,7 +73,7 @@ notified-most r m n cs h =
     by-cond (Most (n + 1)) (eqb m 2) _ _ (λ _. set-most cs (n + 1) (2 * r + 1) _ (more n cs h) (omega (arith, h (2 * r + 1)))) λ _. more n cs h
 
 groupNotified-most : (groups : List ℕ) (g : ℕ) (cs : List ℕ) (n m : ℕ) → Most n cs → Most (n + 1) (groupNotified m groups g cs)
-unfolding groupNotified
+unfolding overMembers
 groupNotified-most groups g cs n zero h = more n cs h
 groupNotified-most groups g cs n (suc m) h =
     let ih = groupNotified-most groups g cs n m h in
@@ -94,13 +82,9 @@ groupNotified-most groups g cs n (suc m) h =
 
 counts-most : (d : Decision) (s : Setup) (cs : List ℕ) (n : ℕ) → Most n cs → Most (n + 1) (countsAfter d s cs)
 unfolding countsAfter
-counts-most (Refused x) s cs n h = more n cs h
-counts-most (Open t b z k) s cs n h = more n cs h
-counts-most (Close t) s cs n h = more n cs h
-counts-most (Forward r a x m) s cs n h = notified-most r m n cs h
-counts-most (Wait t) s cs n h = more n cs h
-counts-most (Release g) s cs n h = groupNotified-most (s .groups) g cs n (s .threads) h
-counts-most (Update b v) s cs n h = more n cs h
+counts-most d s cs n h =
+    by-forward (Most (n + 1)) d _ _ (λ r a x m _. notified-most r m n cs h)
+    (by-release (Most (n + 1)) d _ cs (λ g _. groupNotified-most (s .groups) g cs n (s .threads) h) (more n cs h))
 
 module _ (rec : List ℕ) (s : Setup) (w : World) (clear : (k : ℕ) → getD (w .counts) k 0 ≡ 0) where
   run-most : (n : ℕ) → Most n (runOf rec s n w .counts)

@@ -1,13 +1,5 @@
-pub mod Header
-pub mod Turns
+pub mod Clearing
 pub mod Steps
 pub mod Bounds
-pub mod Masks
-pub mod Accepted
-pub mod Counts
-pub mod Events
-pub mod Barriers
-pub mod Arrivals
 pub mod Loops
-pub mod Claimed
-pub mod Isolation
+pub mod Whole

@@ -1,69 +1,75 @@
 -- What each kind of event leaves is what its decision leaves. Assumes nothing.
-use mathlib.Core.Path.{_≡_, refl, ap, _∙_}
+use mathlib.Core.Path.{_≡_, ap, _∙_}
+use mathlib.Core.Bool.{Bool}
 use mathlib.Core.List.{List, []}
 use Prim.Native.Nat.{ℕ, _<_}
 use native.Mathlib.Omega.{arith}
-use borrow.Author.Tests.{eq-eqb, ne-eqb, lt-ltb, le-ltb}
 use Rattle.event.specs.declared.Head.{Head}
 use Rattle.event.specs.declared.Setup.{Setup}
 use Rattle.event.specs.declared.Gateway.{Gateway}
 use Rattle.event.specs.Decision.{Decision}
 use Rattle.event.specs.Head.{headOf}
-use Rattle.event.specs.Codes.{closed, gatewayAt}
+use Rattle.event.specs.Gateways.{closed, gatewayAt}
 use Rattle.event.specs.Outcomes.{decisionOf, outcomeOf}
-use Rattle.effects.specs.Effects.{gatewaysAfter, bytesAfter, countsAfter, forwarded, withAck}
-use Rattle.effects.specs.Barriers.{slotOf, messageOf, waitingAfter}
+use Rattle.event.specs.ByKind.{decisionThrough, decisionAlone}
+use Rattle.event.proofs.ByKind.{forward-same, other-same, gate-same}
+use Rattle.effects.specs.Effects.{gatewaysAfter, bytesAfter, waitsAfter, countsAfter, forwarded, withAck}
 use Rattle.effects.specs.Gateways.{gatewaysIn}
-use Rattle.effects.proofs.LeftAlone.{gateways-kept, bytes-kept, waiting-kept, counts-kept, registers-kept, message-gateways, message-registers}
-use Rattle.gateway.specs.Steps.{decidedBy, Stepped}
+use Rattle.effects.proofs.LeftAlone.{gateways-kept, bytes-kept, waits-kept, counts-kept, registers-kept}
+use Rattle.barriers.specs.Barriers.{waitingIn, waitsIn, messageDecision, MessageLeft}
+use Rattle.gateway.specs.Steps.{Held, held, Stepped}
 
-module _ (s : Setup) (ev : List ℕ) (h : Head) (head : h ≡ headOf ev) (members gws ms bs rs cs : List ℕ) where
+module _ (s : Setup) (ev : List ℕ) (h : Head) (head : h ≡ headOf ev) (k : Held) (masks : k .waiting ≡ waitingIn s (waitsIn s (k .waiting))) where
   abbrev gs : List Gateway
-  gs = gatewaysIn gws
+  gs = gatewaysIn (k .gateways)
 
-  abbrev Leaves : ℕ → List ℕ → List ℕ → List ℕ → List ℕ → List ℕ → Type 0
-  Leaves o gws′ ms′ bs′ rs′ cs′ = Stepped s ev (decidedBy (headOf ev) s gs members ms) o gws ms bs rs cs gws′ ms′ bs′ rs′ cs′
+  abbrev ws : List Bool
+  ws = waitsIn s (k .waiting)
 
   -- by the head that the code read
-  leaves : {o : ℕ} {gws′ ms′ bs′ rs′ cs′ : List ℕ} (d : Decision) → d ≡ decidedBy h s gs members ms → o ≡ outcomeOf d
-      → gatewaysIn gws′ ≡ gatewaysAfter d gs → ms′ ≡ waitingAfter d (slotOf h s) ms → bs′ ≡ bytesAfter d bs → rs′ ≡ withAck h o (forwarded d ev rs) → cs′ ≡ countsAfter d s cs
-      → Leaves o gws′ ms′ bs′ rs′ cs′
-  leaves d by eo eg em eb er ec =
-      let e : d ≡ decidedBy (headOf ev) s gs members ms = by ∙ ap (λ (x : Head). decidedBy x s gs members ms) head in
-      let out : _ ≡ outcomeOf (decidedBy (headOf ev) s gs members ms) = eo ∙ ap outcomeOf e in
+  abbrev decided : Head → Decision
+  decided x = decisionOf x s (gatewayAt gs (x .target)) ws
+
+  stepped-by : {o : ℕ} {gws′ ms′ bs′ rs′ cs′ : List ℕ} (d : Decision) → d ≡ decided h → o ≡ outcomeOf d
+      → gatewaysIn gws′ ≡ gatewaysAfter d gs → waitsIn s ms′ ≡ waitsAfter d s ws → ms′ ≡ waitingIn s (waitsIn s ms′) → bs′ ≡ bytesAfter d (k .bytes)
+      → rs′ ≡ withAck h o (forwarded d ev (k .registers)) → cs′ ≡ countsAfter d s (k .counts) → Stepped s ev o k (held gws′ ms′ bs′ rs′ cs′)
+  stepped-by d by eo eg ew em eb er ec =
+      let e : d ≡ decided (headOf ev) = by ∙ ap decided head in
+      let out : _ ≡ outcomeOf (decided (headOf ev)) = eo ∙ ap outcomeOf e in
       record {
         its-outcome = out;
-        its-gateways = eg ∙ ap (λ (x : Decision). gatewaysAfter x gs) e;
-        its-waiting = em ∙ (λ j. waitingAfter (e j) (slotOf (head j) s) ms);
-        its-bytes = eb ∙ ap (λ (x : Decision). bytesAfter x bs) e;
-        its-registers = er ∙ (λ j. withAck (head j) (out j) (forwarded (e j) ev rs));
-        its-counts = ec ∙ ap (λ (x : Decision). countsAfter x s cs) e;
+        its-state = λ j. record {
+          gateways = (eg ∙ ap (λ (x : Decision). gatewaysAfter x gs) e) j;
+          bytes = (eb ∙ ap (λ (x : Decision). bytesAfter x (k .bytes)) e) j;
+          waits = (ew ∙ ap (λ (x : Decision). waitsAfter x s ws) e) j;
+        };
+        its-registers = er ∙ (λ j. withAck (head j) (out j) (forwarded (e j) ev (k .registers)));
+        its-counts = ec ∙ ap (λ (x : Decision). countsAfter x s (k .counts)) e;
+        its-masks = em;
       }
 
-  pub forward-leaves : {gate : Gateway} {o : ℕ} {rs′ cs′ : List ℕ} → h .kind ≡ 2 → gate ≡ gatewayAt gs (h .target) → o ≡ outcomeOf (decisionOf h s gate [])
-      → rs′ ≡ withAck h o (forwarded (decisionOf h s gate []) ev rs) → cs′ ≡ countsAfter (decisionOf h s gate []) s cs → Leaves o gws ms bs rs′ cs′
-  unfolding decidedBy
-  forward-leaves {gate} k g eo er ec =
-      leaves (decisionOf h s gate []) (simp (eq-eqb _ _ k) (ap (λ (x : Gateway). decisionOf h s x []) g)) eo
+  pub forward-leaves : {gate : Gateway} {o : ℕ} {rs′ cs′ : List ℕ} → h .kind ≡ 2 → gate ≡ gatewayAt gs (h .target)
+      → (o ≡ outcomeOf (decisionThrough h s gate)) × (rs′ ≡ withAck h o (forwarded (decisionThrough h s gate) ev (k .registers))) × (cs′ ≡ countsAfter (decisionThrough h s gate) s (k .counts))
+      → Stepped s ev o k (held (k .gateways) (k .waiting) (k .bytes) rs′ cs′)
+  forward-leaves {gate} two g e =
+      stepped-by (decisionThrough h s gate) (forward-same h s gate [] ws two ∙ ap (λ (x : Gateway). decisionOf h s x ws) g) (e .0)
       (gateways-kept h s gate [] (omega arith) gs)
-      (waiting-kept h s gate [] (λ z. omega arith) (slotOf h s) ms)
-      (bytes-kept h s gate [] (λ z. omega arith) bs) er ec
+      (waits-kept h s gate [] (λ z. omega arith) ws) masks
+      (bytes-kept h s gate [] (λ z. omega arith) (k .bytes)) (e .1) (e .2)
 
-  pub open-or-close-leaves : {o : ℕ} {gws′ rs′ : List ℕ} → h .kind < 2 → o ≡ outcomeOf (decisionOf h s closed [])
-      → gatewaysIn gws′ ≡ gatewaysAfter (decisionOf h s closed []) gs → rs′ ≡ withAck h o rs → Leaves o gws′ ms bs rs′ cs
-  unfolding decidedBy
-  open-or-close-leaves {o} k eo eg er =
-      leaves (decisionOf h s closed []) (simp (ne-eqb (h .kind) 2 (λ z. omega arith), lt-ltb _ _ k) refl) eo eg
-      (waiting-kept h s closed [] (λ z. omega arith) (slotOf h s) ms)
-      (bytes-kept h s closed [] (λ z. omega arith) bs)
-      (er ∙ ap (withAck h o) (registers-kept h s closed [] (λ z. omega arith) ev rs))
-      (counts-kept h s closed [] (λ z. omega arith) (λ z. omega arith) cs)
+  pub open-or-close-leaves : {o : ℕ} {gws′ rs′ : List ℕ} → h .kind < 2
+      → (o ≡ outcomeOf (decisionAlone h s)) × (gatewaysIn gws′ ≡ gatewaysAfter (decisionAlone h s) gs) × (rs′ ≡ withAck h o (k .registers))
+      → Stepped s ev o k (held gws′ (k .waiting) (k .bytes) rs′ (k .counts))
+  open-or-close-leaves {o} low e =
+      stepped-by (decisionAlone h s) (other-same h s closed (gatewayAt gs (h .target)) [] ws (λ z. omega arith) (λ z. omega arith)) (e .0) (e .1)
+      (waits-kept h s closed [] (λ z. omega arith) ws) masks
+      (bytes-kept h s closed [] (λ z. omega arith) (k .bytes))
+      (e .2 ∙ ap (withAck h o) (registers-kept h s closed [] (λ z. omega arith) ev (k .registers)))
+      (counts-kept h s closed [] (λ z. omega arith) (λ z. omega arith) (k .counts))
 
-  pub message-leaves : {o : ℕ} {ms′ bs′ rs′ cs′ : List ℕ} → 2 < h .kind → o ≡ outcomeOf (messageOf h s members ms)
-      → ms′ ≡ waitingAfter (messageOf h s members ms) (slotOf h s) ms → bs′ ≡ bytesAfter (messageOf h s members ms) bs → rs′ ≡ withAck h o rs
-      → cs′ ≡ countsAfter (messageOf h s members ms) s cs → Leaves o gws ms′ bs′ rs′ cs′
-  unfolding decidedBy
-  message-leaves {o} k eo em eb er ec =
-      leaves (messageOf h s members ms) (simp (ne-eqb (h .kind) 2 (λ z. omega arith), le-ltb (h .kind) 2 (omega arith)) refl) eo
-      (message-gateways h s members ms k gs) em eb
-      (er ∙ ap (withAck h o) (message-registers h s members ms k ev rs)) ec
+  pub message-leaves : {o : ℕ} {ms′ bs′ rs′ cs′ : List ℕ} → 2 < h .kind → MessageLeft h s o (k .waiting) (k .bytes) (k .registers) (k .counts) ms′ bs′ rs′ cs′
+      → Stepped s ev o k (held (k .gateways) ms′ bs′ rs′ cs′)
+  message-leaves {o} high e =
+      stepped-by (messageDecision h s (k .waiting)) (gate-same h s closed (gatewayAt gs (h .target)) ws (λ z. omega arith)) (e .its-outcome)
+      (gateways-kept h s closed ws (omega arith) gs) (e .its-waits) (e .its-masks) (e .its-bytes)
+      (e .its-registers ∙ ap (withAck h o) (registers-kept h s closed ws (λ z. omega arith) ev (k .registers))) (e .its-counts)

@@ -1,7 +1,7 @@
 -- The replay: document 01, "Else gateways start closed, barriers empty with byte 0, counts zero; each event writes one outcome byte and the
 -- replay goes on. Outcome bytes past the events stay. The answer holds the end gateways and barriers."
-use Prim.Native.Nat.{ℕ, zero, suc, _+_, _^_}
-use mathlib.Core.Bool.{Bool, false, cond, _&&_}
+use Prim.Native.Nat.{ℕ, zero, suc}
+use mathlib.Core.Bool.{Bool, false, cond}
 use mathlib.Core.List.{List}
 use lib.Dec.{eqb}
 use lib.ListN.{length, getD, set, replicate}
@@ -10,16 +10,17 @@ use Rattle.event.specs.declared.Head.{Head}
 use Rattle.event.specs.declared.Setup.{Setup}
 use Rattle.event.specs.Decision.{Decision}
 use Rattle.event.specs.Head.{headOf}
-use Rattle.event.specs.Codes.{closed, gatewayAt}
-use Rattle.event.specs.Groups.{groupOf, waitsOf, bitsWhere}
+use Rattle.event.specs.Gateways.{closed, gatewayAt}
 use Rattle.event.specs.Outcomes.{decisionOf, outcomeOf}
 use Rattle.event.specs.declared.Gateway.{Gateway}
 use Rattle.gateway.specs.declared.Barrier.{Barrier}
 use Rattle.gateway.specs.declared.Replayed.{Replayed}
-use Rattle.gateway.specs.Recording.{setupOf, eventsOf, eventAt, refusalOf}
+use Rattle.recording.specs.Recording.{setupOf, eventsOf, eventAt, refusalOf}
 use Rattle.effects.specs.Effects.{gatewaysAfter, bytesAfter, waitsAfter, countsAfter, forwarded, withAck}
+use Rattle.barriers.specs.Barriers.{waitingOf}
 
--- What an event leaves to the next: each thread's gateway, "open or closed, with base, size and key", each barrier's byte, and which threads wait.
+-- What an event leaves to the next: each thread's gateway, "open or closed, with base, size and key", each barrier's byte, and which
+-- threads wait.
 pub record State : Type 0 where
   pub gateways : List Gateway
   pub bytes : List ℕ
@@ -70,15 +71,15 @@ runOf rec s (suc n) w = stepOf s (eventAt rec n) n (runOf rec s n w)
 abbrev pub start : State
 start = record { gateways = replicate 16 closed; bytes = replicate 16 0; waits = replicate 16 false }
 
+-- what the first event meets over these buffers
+abbrev pub startOver : List ℕ → List ℕ → List ℕ → World
+startOver registers counts outcomes = record { state = start; registers = registers; counts = counts; outcomes = outcomes }
+
 -- "counts zero"; registers and outcomes as they were lent
 abbrev pub begun : List ℕ → List ℕ → List ℕ → World
-begun registers counts outcomes = record { state = start; registers = registers; counts = replicate (length counts) 0; outcomes = outcomes }
+begun registers counts outcomes = startOver registers (replicate (length counts) 0) outcomes
 
--- Who waits at barrier b, among the first n threads: bit t is set where thread t is of that group and waits.
-abbrev pub waitingOf : ℕ → List ℕ → ℕ → List Bool → ℕ
-waitingOf n groups b waits = bitsWhere (λ t. eqb (groupOf groups t) b && waitsOf waits t) n
-
--- "a barrier is its byte and who waits"
+-- "a barrier is its byte and who waits": bit t is set where thread t is of that group and waits
 abbrev pub barrierOf : Setup → State → ℕ → Barrier
 barrierOf s w b = record { byte = getD (w .bytes) b 0; waiting = waitingOf (s .threads) (s .groups) b (w .waits) }
 

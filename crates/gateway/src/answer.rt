@@ -2,7 +2,7 @@
 ghost use mathlib.Core.Path.{_≡_};
 ghost use Rattle.effects.specs.Gateways.{gatewaysIn};
 ghost use Rattle.gateway.specs.Replay.{refusedAnswer};
-ghost use Rattle.gateway.specs.Steps.{barriersFrom};
+ghost use Rattle.gateway.specs.Steps.{barriersFrom, answerFrom};
 use crate::Barrier;
 use crate::Ended;
 use crate::Replayed;
@@ -69,7 +69,7 @@ pub fn refused(number: u32) -> Replayed
 
 // The gateways and the barriers at the end.
 pub fn ended(end: Ended) -> Replayed
-    ensures { λ r. ⌜ r ≡ record { number = 0; gateways = gatewaysIn (end .gateways); barriers = barriersFrom (end .bytes) (end .waiting) } ⌝ }
+    ensures { λ r. ⌜ r ≡ answerFrom (end .gateways) (end .bytes) (end .waiting) ⌝ }
 {
     let words = end.gateways;
     let bytes = end.bytes;

@@ -5,10 +5,9 @@ ghost use Rattle.gateway.specs.Replay.{replayOf};
 use event::Gateway;
 use event::heads::half;
 
-pub mod answer;
-pub mod recording;
-pub mod run;
-pub mod step;
+mod answer;
+mod run;
+mod step;
 
 // A barrier: "its byte and who waits". Bit t of `waiting`: thread t waits.
 #[repr(C)]
@@ -25,11 +24,11 @@ pub struct Replayed {
     pub barriers: [Barrier; 16],
 }
 
-// What the events leave beside the lent buffers: the gateways, four words a thread, and each barrier's byte and who waits, bit t for thread t.
-pub struct Ended {
-    pub gateways: [u32; 64],
-    pub bytes: [u32; 16],
-    pub waiting: [u32; 16],
+// What the events leave beside the lent buffers: the gateways, four words a thread, each barrier's byte, and who waits, bit t for thread t.
+struct Ended {
+    gateways: [u32; 64],
+    bytes: [u32; 16],
+    waiting: [u32; 16],
 }
 
 // Counts begin at zero.
@@ -44,14 +43,16 @@ fn clear(counts: &mut [u32])
 }
 
 // Replays a recording. On refusals 11 to 16 nothing lent changes. Otherwise the bytes of accepted forwards and the
-// acknowledgements stand in `registers`, 4,096 bytes a thread, the notifications in `counts`, N0 and N2 of each thread, and each event's outcome in `outcomes`.
+// acknowledgements stand in `registers`, 4,096 bytes a thread, the notifications in `counts`, N0 and N2 of each thread, and each event's
+// outcome in `outcomes`.
 pub fn replay(
     recording: &[u8],
     registers: &mut [u8],
     counts: &mut [u32],
     outcomes: &mut [u8],
 ) -> Replayed
-    ensures { λ r. ⌜ (r ≡ replayOf (now (recording .entry)) (now (registers .entry)) (now (counts .entry)) (now (outcomes .entry)) .answer) × (now (registers .exit) ≡ replayOf (now (recording .entry)) (now (registers .entry)) (now (counts .entry)) (now (outcomes .entry)) .registers) × (now (counts .exit) ≡ replayOf (now (recording .entry)) (now (registers .entry)) (now (counts .entry)) (now (outcomes .entry)) .counts) × (now (outcomes .exit) ≡ replayOf (now (recording .entry)) (now (registers .entry)) (now (counts .entry)) (now (outcomes .entry)) .outcomes) ⌝ }
+    ensures { λ r. ⌜ record { answer = r; registers = now (registers .exit); counts = now (counts .exit); outcomes = now (outcomes .exit) }
+        ≡ replayOf (now (recording .entry)) (now (registers .entry)) (now (counts .entry)) (now (outcomes .entry)) ⌝ }
 {
     let number = recording::refusal(recording, registers.len(), counts.len(), outcomes.len());
     if number != 0 {

@@ -1,9 +1,8 @@
 // The events of a recording, one after the other.
-ghost use Rattle.gateway.specs.Replay.{runOf, start};
-ghost use Rattle.gateway.specs.Steps.{Running, Kept};
+ghost use Rattle.gateway.specs.Steps.{held, Running, Ran};
 use crate::Ended;
 use crate::step::step;
-use effects::barriers::members;
+use barriers::members;
 use event::Setup;
 
 // What the events leave, beside the lent buffers. Each event is handed on as its 48 bytes, a part of the recording.
@@ -16,7 +15,8 @@ pub fn run(
     outcomes: &mut [u8],
 ) -> Ended
     requires { ⌜ Running (now recording) setup events (now registers) (now counts) (now outcomes) ⌝ }
-    ensures { λ r. ⌜ Kept setup (runOf (now (recording .entry)) setup events (record { state = start; registers = now (registers .entry); counts = now (counts .entry); outcomes = now (outcomes .entry) })) (r .gateways) (r .bytes) (r .waiting) (now (registers .exit)) (now (counts .exit)) (now (outcomes .exit)) ⌝ }
+    ensures { λ r. ⌜ Ran (now (recording .entry)) setup events (now (registers .entry)) (now (counts .entry)) (now (outcomes .entry))
+        (held (r .gateways) (r .waiting) (r .bytes) (now (registers .exit)) (now (counts .exit))) (now (outcomes .exit)) ⌝ }
 {
     let first = 10 + setup.threads;
     let members = members(setup);

@@ -8,10 +8,11 @@ use native.Mathlib.Omega.{arith}
 use lib.Bits.{bitAnd, and-block, and-mask, and-mod, and-le-r, and-zero-r}
 use lib.Pow.{pow-pos}
 use lib.Dec.{T, eqb, eqb→eq, ltb, ltb→lt}
-use lib.ListN.{getD}
+use lib.ListN.{length, getD}
 use borrow.Author.Tests.{ne-eqb}
 use Rattle.laws.proofs.Tests.{both-left, both-right}
-use Rattle.laws.specs.BitRanges.{Bits, bits, field, anySet, maskOf, apart, masksOf, tableOf}
+use Rattle.laws.proofs.Table.{every, at}
+use Rattle.laws.specs.BitRanges.{Bits, bits, field, anySet, maskOf, apart}
 
 -- the law between a range of bits and the code's shift and mask
 pub taken : (h l d : ℕ) → field (bits h l) d ≡ bitAnd (d / 2 ^ l) (2 ^ (h - l + 1) - 1)
@@ -22,6 +23,9 @@ taken h l d = sym (and-mask (d / 2 ^ l) (h - l + 1))
 pub taken-low : (h d : ℕ) → field (bits h 0) d ≡ bitAnd d (2 ^ (h - 0 + 1) - 1)
 unfolding field
 taken-low h d = let e : d / 2 ^ 0 ≡ d = omega arith in ap (λ (x : ℕ). x % 2 ^ (h - 0 + 1)) e ∙ sym (and-mask d (h - 0 + 1))
+
+-- a range of the specification turned into the code's shift and mask
+pub ruleset coded = (taken-low, taken)
 
 some : (x y p : ℕ) → 0 < p → not (eqb x 0) || not (eqb y 0) ≡ not (eqb (x * p + y) 0)
 some zero y p h = let e : y ≡ 0 * p + y = omega arith in ap (λ (n : ℕ). not (eqb n 0)) e
@@ -51,21 +55,27 @@ marked (r ∷ rs) d t =
     ∙ some (field r d) (bitAnd d (maskOf rs)) (2 ^ (r .low)) (pow-pos (r .low))
     ∙ ap (λ (n : ℕ). not (eqb n 0)) (sym (step d (r .high - r .low + 1) (r .low) (maskOf rs) h))
 
-by-row : (rs : List (List Bits)) (xs : List ℕ) → T (masksOf rs xs) → (m d : ℕ) → anySet (getD rs m []) d ≡ not (eqb (bitAnd d (getD xs m 0)) 0)
-by-row [] [] t m d = marked [] d tt
-by-row [] (x ∷ xs) t m d = absurd t
-by-row (r ∷ rs) [] t m d = absurd t
-by-row (r ∷ rs) (x ∷ xs) t zero d =
-    let u = both-right (apart r) (eqb x (maskOf r) && masksOf rs xs) t in
-    marked r d (both-left (apart r) (eqb x (maskOf r) && masksOf rs xs) t)
-    ∙ ap (λ (n : ℕ). not (eqb (bitAnd d n) 0)) (sym (eqb→eq x (maskOf r) (both-left (eqb x (maskOf r)) (masksOf rs xs) u)))
-by-row (r ∷ rs) (x ∷ xs) t (suc m) d =
-    by-row rs xs (both-right (eqb x (maskOf r)) (masksOf rs xs) (both-right (apart r) (eqb x (maskOf r) && masksOf rs xs) t)) m d
+-- The rule of a table of masks, whose entry i in row k, of so many to a row, has the marked ranges `ranges k i`.
+module _ (ranges : ℕ → ℕ → List Bits) (width : ℕ) where
+  -- an entry is the mask of its ranges, which stand apart
+  abbrev masksEntry : ℕ → ℕ → ℕ → Bool
+  masksEntry k i x = apart (ranges k i) && eqb x (maskOf (ranges k i))
 
--- The rule of any table that passes the computed test: entry i of row k tests the marked ranges of its place, and past the end nothing.
-pub by-table : (rs : List (List (List Bits))) (xs : List (List ℕ)) → T (tableOf rs xs) → (k i d : ℕ) → anySet (getD (getD rs k []) i []) d ≡ not (eqb (bitAnd d (getD (getD xs k []) i 0)) 0)
-by-table [] [] t k i d = by-row [] [] tt i d
-by-table [] (x ∷ xs) t k i d = absurd t
-by-table (r ∷ rs) [] t k i d = absurd t
-by-table (r ∷ rs) (x ∷ xs) t zero i d = by-row r x (both-left (masksOf r x) (tableOf rs xs) t) i d
-by-table (r ∷ rs) (x ∷ xs) t (suc k) i d = by-table rs xs (both-right (masksOf r x) (tableOf rs xs) t) k i d
+  abbrev masksRow : ℕ → List ℕ → Bool
+  masksRow k xs = eqb (length xs) width && every (masksEntry k) 0 0 xs
+
+  -- the computed test: every entry of every row is
+  abbrev pub masksTable : List (List ℕ) → Bool
+  masksTable xs = every masksRow [] 0 xs
+
+  -- then each entry tests its ranges
+  pub by-table : (xs : List (List ℕ)) → T (masksTable xs) → (k i d : ℕ) → k < length xs → i < width
+      → not (eqb (bitAnd d (getD (getD xs k []) i 0)) 0) ≡ anySet (ranges k i) d
+  by-table xs t k i d hk hi =
+      let row = getD xs k [] in
+      let x = getD row i 0 in
+      let r = at masksRow [] xs t k hk in
+      let long = eqb→eq (length row) width (both-left (eqb (length row) width) (every (masksEntry k) 0 0 row) r) in
+      let u = at (masksEntry k) 0 row (both-right (eqb (length row) width) (every (masksEntry k) 0 0 row) r) i (omega arith) in
+      ap (λ (n : ℕ). not (eqb (bitAnd d n) 0)) (eqb→eq x (maskOf (ranges k i)) (both-right (apart (ranges k i)) (eqb x (maskOf (ranges k i))) u))
+      ∙ sym (marked (ranges k i) d (both-left (apart (ranges k i)) (eqb x (maskOf (ranges k i))) u))

@@ -29,17 +29,3 @@ maskOf (r ∷ rs) = (2 ^ (r .high - r .low + 1) - 1) * 2 ^ (r .low) + maskOf rs
 abbrev pub apart : List Bits → Bool
 apart [] = true
 apart (r ∷ rs) = ltb (maskOf rs) (2 ^ (r .low)) && apart rs
-
--- a row of masks is that of a manual's marks: entry by entry the ranges stand apart, and the mask is theirs
-abbrev pub masksOf : List (List Bits) → List ℕ → Bool
-masksOf [] [] = true
-masksOf [] (x ∷ xs) = false
-masksOf (r ∷ rs) [] = false
-masksOf (r ∷ rs) (x ∷ xs) = apart r && (eqb x (maskOf r) && masksOf rs xs)
-
--- and so is a table, row by row
-abbrev pub tableOf : List (List (List Bits)) → List (List ℕ) → Bool
-tableOf [] [] = true
-tableOf [] (x ∷ xs) = false
-tableOf (r ∷ rs) [] = false
-tableOf (r ∷ rs) (x ∷ xs) = masksOf r x && tableOf rs xs

@@ -1,17 +1,15 @@
--- A table of document 01: rows of a number, a place and a condition, of which the first that holds decides. Assumes nothing.
-use Prim.Native.Nat.{ℕ}
+-- A table of document 01: rows, each with what it gives and when it holds, of which the first that holds decides. Assumes nothing.
 use mathlib.Core.Bool.{Bool, cond}
 use mathlib.Core.List.{List, [], _∷_}
 
-pub record Row : Type 0 where
-  pub number : ℕ
-  pub place : ℕ
+pub record Row (A : Type 0) : Type 0 where
+  pub gives : A
   pub holds : Bool
 
-abbrev pub row : ℕ → ℕ → Bool → Row
-row m p t = record { number = m; place = p; holds = t }
+abbrev pub row : {A : Type 0} → A → Bool → Row A
+row x t = record { gives = x; holds = t }
 
-module _ {A : Type 0} (refused : ℕ → ℕ → A) (passed : A) where
-  abbrev pub firstRow : List Row → A
-  firstRow [] = passed
-  firstRow (r ∷ rs) = cond (r .holds) (refused (r .number) (r .place)) (firstRow rs)
+-- what the first row that holds gives, and `otherwise` where none does
+abbrev pub firstRow : {A : Type 0} → A → List (Row A) → A
+firstRow otherwise [] = otherwise
+firstRow otherwise (r ∷ rs) = cond (r .holds) (r .gives) (firstRow otherwise rs)

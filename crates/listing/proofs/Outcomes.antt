@@ -1,5 +1,5 @@
 -- What is written is the text of the input. Assumes nothing.
-use mathlib.Core.Path.{_≡_, refl, sym, ap, _∙_}
+use mathlib.Core.Path.{_≡_, refl, sym, ap, subst₂, _∙_}
 use mathlib.Core.Bool.{Bool, cond}
 use mathlib.Core.List.{List, [], _++_}
 use Prim.Native.Nat.{ℕ, _+_, _*_, _%_, _≤_, _<_}
@@ -8,20 +8,24 @@ use lib.ListN.{length, set, drop, length-append}
 use lib.Seq.{length-take-le}
 use borrow.Author.Tests.{lt-ltb, le-ltb, eq-eqb, ne-eqb}
 use Rattle.io.specs.Counts.{Counts}
-use Rattle.words.specs.Dwords.{dwordsOf, dwordsIn}
+use Rattle.words.specs.Dwords.{dwordsOf, dwordsIn, Buffer, buffer, putIn}
 use Rattle.words.proofs.Dwords.{in-none, in-dwords, length-dwords}
 use Rattle.command.specs.Order.{Command}
-use Rattle.batch.specs.declared.Scanned.{Scanned}
-use Rattle.batch.specs.declared.Scanned.the-variants.{Stopped, Ended}
-use Rattle.batch.specs.Reading.{Stop, ended, stopped, readingOf}
-use Rattle.batch.specs.Records.{written}
-use Rattle.batch.specs.Answers.{atStop, decided, decisionOf, recorded}
-use Rattle.batch.proofs.Counts.{passed-count}
-use Rattle.batch.proofs.Decisions.{by-refusal, by-success, fits-commands}
-use Rattle.listing.specs.Listing.{linesOf, acceptedLine, refusedLine, markLine, readText, batchText, oddText, textOf}
-use Rattle.listing.specs.Writing.{Wrote, recordLines}
-use Rattle.listing.proofs.Pieces.{then, known-as}
-use Rattle.listing.proofs.Recorded.{recorded-lines}
+use Rattle.reading.specs.declared.Scanned.{Scanned}
+use Rattle.reading.specs.declared.Scanned.the-variants.{Stopped, Ended}
+use Rattle.reading.specs.Reading.{Stop, ended, stopped, readingOf}
+use Rattle.records.specs.Records.{written, recorded}
+use Rattle.records.proofs.Buffers.{written-view}
+use Rattle.reading.specs.Decision.{atStop, decided, decisionOf}
+use Rattle.reading.proofs.EndToEnd.{kinds-known}
+use Rattle.reading.proofs.Counts.{passed-count}
+use Rattle.reading.proofs.Decisions.{by-refusal, by-success, fits-commands}
+use Rattle.text.specs.Lines.{acceptedLine, refusedLine, markLine}
+use Rattle.listing.specs.Listing.{linesOf, readText, batchText, oddText, textOf}
+use Rattle.text.specs.Writing.{Wrote}
+use Rattle.listing.specs.RecordLines.{KindsNamed, recordLines}
+use Rattle.text.proofs.Pieces.{then, known-as}
+use Rattle.listing.proofs.Recorded.{records-named, recorded-lines}
 
 -- with room for 1,024 records 10 does not occur
 stop-text : (cs : List Command) (s : Stop) → length cs ≤ 1024 → atStop refusedLine (λ c d. linesOf cs ++ acceptedLine c d) 16384 (length cs) s ≡ readText cs s
@@ -68,11 +72,17 @@ module _ (input : List ℕ) (h : length input ≤ 4096) (w : Scanned) (ew : w �
           let n : length (readingOf 2048 (dwordsIn [] input) .passed) ≡ length cs = ap (λ (b : List ℕ). length (readingOf 2048 b .passed)) (in-none input) in
           let q = few in omega arith
 
-      module _ (records′ none : List ℕ) (zn : length none ≡ 0) (f : dwordsIn records′ none ≡ recorded set 2048 (dwordsIn [] input) (dwordsIn records [])) where
+      module _ (records′ none : List ℕ) (zn : length none ≡ 0) (f : buffer records′ none ≡ recorded putIn 2048 (dwordsIn [] input) (buffer records [])) where
         filled : records′ ≡ written set cs 0 records
         filled =
-            sym (in-dwords records′ none zn) ∙ f ∙ ap (λ (b : List ℕ). recorded set 2048 b (dwordsIn records [])) (in-none input)
+            sym (in-dwords records′ none zn) ∙ ap (λ (x : Buffer). x .view) f ∙ written-view (readingOf 2048 (dwordsIn [] input) .passed) 0 (buffer records [])
+            ∙ ap (λ (b : List ℕ). recorded set 2048 b (dwordsIn records [])) (in-none input)
             ∙ ap (written set cs 0) (in-dwords records [] refl)
+
+        pub kinds-named : KindsNamed records′ c
+        kinds-named =
+            let n = records-named cs records (let q = few in omega arith) (kinds-known 2048 (dwordsOf input)) in
+            subst₂ KindsNamed (sym filled) count n
 
         lines-are : recordLines records′ c ≡ linesOf cs
         lines-are =

@@ -2,13 +2,14 @@
 ghost use mathlib.Core.Path.{_≡_};
 ghost use Rattle.deltas.specs.InPlay.{inPlay, counted};
 ghost use Rattle.batch.specs.Answers.{answerOf, recordsOf, bytesAnswerOf, bytesRecordsOf};
-ghost use Rattle.scoreboard.specs.Answers as order;
+ghost use Rattle.scoreboard.specs.Answers.{orderOf, bytesOrderOf};
 ghost use Rattle.gateway.specs.Replay.{replayOf};
 
 // The batch check over little-endian bytes.
 #[no_mangle]
 pub extern "C" fn mpl_check_batch(batch: &[u8], capacity: u32, records: &mut [u8]) -> batch::Answer
-    ensures { λ r. ⌜ (r ≡ bytesAnswerOf capacity (now (batch .entry)) (now (records .entry))) × (now (records .exit) ≡ bytesRecordsOf capacity (now (batch .entry)) (now (records .entry))) ⌝ }
+    ensures { λ r. ⌜ (r ≡ bytesAnswerOf capacity (now (batch .entry)) (now (records .entry)))
+        × (now (records .exit) ≡ bytesRecordsOf capacity (now (batch .entry)) (now (records .entry))) ⌝ }
 {
     batch::check_bytes(batch, capacity, records)
 }
@@ -20,7 +21,8 @@ pub extern "C" fn mpl_check_batch_dwords(
     capacity: u32,
     records: &mut [u32],
 ) -> batch::Answer
-    ensures { λ r. ⌜ (r ≡ answerOf capacity (now (batch .entry)) (now (records .entry))) × (now (records .exit) ≡ recordsOf capacity (now (batch .entry)) (now (records .entry))) ⌝ }
+    ensures { λ r. ⌜ (r ≡ answerOf capacity (now (batch .entry)) (now (records .entry)))
+        × (now (records .exit) ≡ recordsOf capacity (now (batch .entry)) (now (records .entry))) ⌝ }
 {
     batch::check(batch, capacity, records)
 }
@@ -46,7 +48,8 @@ pub extern "C" fn mpl_check_order(
     records: &mut [u8],
     states: &mut [u8],
 ) -> scoreboard::Answer
-    ensures { λ r. ⌜ (r ≡ order.bytesAnswerOf capacity (now (batch .entry)) (now (run .entry)) (now (records .entry)) (now (states .entry))) × (now (records .exit) ≡ order.bytesRecordsOf capacity (now (batch .entry)) (now (run .entry)) (now (records .entry)) (now (states .entry))) × (now (states .exit) ≡ order.bytesStatesOf capacity (now (batch .entry)) (now (run .entry)) (now (records .entry)) (now (states .entry))) ⌝ }
+    ensures { λ r. ⌜ record { answer = r; records = now (records .exit); states = now (states .exit) }
+        ≡ bytesOrderOf capacity (now (batch .entry)) (now (run .entry)) (now (records .entry)) (now (states .entry)) ⌝ }
 {
     scoreboard::check_bytes(batch, capacity, run, records, states)
 }
@@ -60,7 +63,8 @@ pub extern "C" fn mpl_check_order_dwords(
     records: &mut [u32],
     states: &mut [u8],
 ) -> scoreboard::Answer
-    ensures { λ r. ⌜ (r ≡ order.answerOf capacity (now (batch .entry)) (now (run .entry)) (now (records .entry)) (now (states .entry))) × (now (records .exit) ≡ order.recordsOf capacity (now (batch .entry)) (now (run .entry)) (now (records .entry)) (now (states .entry))) × (now (states .exit) ≡ order.statesOf capacity (now (batch .entry)) (now (run .entry)) (now (records .entry)) (now (states .entry))) ⌝ }
+    ensures { λ r. ⌜ record { answer = r; records = now (records .exit); states = now (states .exit) }
+        ≡ orderOf capacity (now (batch .entry)) (now (run .entry)) (now (records .entry)) (now (states .entry)) ⌝ }
 {
     scoreboard::check(batch, capacity, run, records, states)
 }
@@ -73,7 +77,8 @@ pub extern "C" fn mpl_replay(
     counts: &mut [u32],
     outcomes: &mut [u8],
 ) -> gateway::Replayed
-    ensures { λ r. ⌜ (r ≡ replayOf (now (recording .entry)) (now (registers .entry)) (now (counts .entry)) (now (outcomes .entry)) .answer) × (now (registers .exit) ≡ replayOf (now (recording .entry)) (now (registers .entry)) (now (counts .entry)) (now (outcomes .entry)) .registers) × (now (counts .exit) ≡ replayOf (now (recording .entry)) (now (registers .entry)) (now (counts .entry)) (now (outcomes .entry)) .counts) × (now (outcomes .exit) ≡ replayOf (now (recording .entry)) (now (registers .entry)) (now (counts .entry)) (now (outcomes .entry)) .outcomes) ⌝ }
+    ensures { λ r. ⌜ record { answer = r; registers = now (registers .exit); counts = now (counts .exit); outcomes = now (outcomes .exit) }
+        ≡ replayOf (now (recording .entry)) (now (registers .entry)) (now (counts .entry)) (now (outcomes .entry)) ⌝ }
 {
     gateway::replay(recording, registers, counts, outcomes)
 }

@@ -8,9 +8,9 @@ use Rattle.deltas.specs.Deltas.{deltaOf}
 use Rattle.batch.specs.declared.Answer.{Answer}
 use Rattle.batch.specs.Answers.{refusedAnswer, acceptedAnswer, answerOf}
 use Rattle.scoreboard.specs.declared.Answer as orders
-use Rattle.scoreboard.specs.Answers as order
+use Rattle.scoreboard.specs.Answers.{orderOf}
 use Rattle.event.specs.declared.Gateway.{Gateway}
-use Rattle.event.specs.Codes.{closed, opened}
+use Rattle.event.specs.Gateways.{closed, opened}
 use Rattle.gateway.specs.declared.Replayed.{Replayed}
 use Rattle.gateway.specs.Replay.{emptyBarrier, replayOf}
 
@@ -21,8 +21,8 @@ pub data Case : Type 0 where
   Batch : ℕ → List ℕ → Answer → Case
   -- a batch, a run, its answer, and the states of two objects
   Order : List ℕ → List ℕ → orders.Answer → List ℕ → Case
-  -- A recording of one thread: its end answer, the outcomes, the counts, and the registers' bytes from an index on. Registers begin with 1 in
-  -- every byte, and counts and outcomes with 9.
+  -- A recording of one thread: its end answer, the outcomes, the counts, and the registers' bytes from an index on. Registers begin with 1
+  -- in every byte, and counts and outcomes with 9.
   Recording : List ℕ → Replayed → List ℕ → List ℕ → ℕ → List ℕ → Case
 
 -- what a case says
@@ -30,7 +30,7 @@ abbrev pub Holds : Case → Type 0
 Holds (Nibble n z) = deltaOf n ≡ z
 Holds (Batch capacity b a) = answerOf capacity b (replicate 64 0) ≡ a
 Holds (Order b run a s) =
-    (order.answerOf 2048 b run (replicate 96 0) (9 ∷ 9 ∷ []) ≡ a) × (order.statesOf 2048 b run (replicate 96 0) (9 ∷ 9 ∷ []) ≡ s)
+    let end = orderOf 2048 b run (replicate 96 0) (9 ∷ 9 ∷ []) in (end .answer ≡ a) × (end .states ≡ s)
 Holds (Recording rec a outs counts at bytes) =
     let end = replayOf rec (replicate 4096 1) (9 ∷ 9 ∷ []) (replicate (length outs) 9) in
     (end .answer ≡ a) × (end .outcomes ≡ outs) × (end .counts ≡ counts) × (take (length bytes) (drop at (end .registers)) ≡ bytes)
@@ -68,7 +68,8 @@ recording bypass group n events = 71 ∷ 87 ∷ 82 ∷ 1 ∷ 0 ∷ 1 ∷ bypass 
 
 -- an event of thread 0 by its kind, flags, ack register, bytes 4 and 5, and bytes 8 and 9; its data bytes are all 7
 abbrev pub event : ℕ → ℕ → ℕ → ℕ → ℕ → ℕ → ℕ → List ℕ
-event kind flags register target code low high = kind ∷ 0 ∷ flags ∷ register ∷ target ∷ code ∷ 0 ∷ 0 ∷ low ∷ high ∷ replicate 6 0 ++ replicate 32 7
+event kind flags register target code low high =
+    kind ∷ 0 ∷ flags ∷ register ∷ target ∷ code ∷ 0 ∷ 0 ∷ low ∷ high ∷ replicate 6 0 ++ replicate 32 7
 
 -- the answer with this gateway for thread 0, all others closed, and barriers empty
 abbrev pub ended : Gateway → Replayed
@@ -98,8 +99,10 @@ table =
     ∷ Recording (recording 0 255 1 (event 0 0 0 0 5 96 0)) (ended (opened 96 5 0)) (0 ∷ []) none 0 (1 ∷ [])
     ∷ Recording (recording 0 255 1 (event 0 0 0 0 5 97 0)) (ended closed) (33 ∷ []) none 0 (1 ∷ [])
     -- "P7 a one-register window: offset 0 length 32 passes, offset 1 gives 37"; the window is register 2
-    ∷ Recording (recording 0 255 2 (event 0 0 0 0 0 2 0 ++ event 2 0 0 0 5 0 0)) (ended (opened 2 0 0)) (0 ∷ 0 ∷ []) none 63 (1 ∷ replicate 32 7 ++ 1 ∷ [])
-    ∷ Recording (recording 0 255 2 (event 0 0 0 0 0 2 0 ++ event 2 0 0 0 5 1 0)) (ended (opened 2 0 0)) (0 ∷ 37 ∷ []) none 63 (replicate 34 1)
+    ∷ Recording (recording 0 255 2 (event 0 0 0 0 0 2 0 ++ event 2 0 0 0 5 0 0))
+    (ended (opened 2 0 0)) (0 ∷ 0 ∷ []) none 63 (1 ∷ replicate 32 7 ++ 1 ∷ [])
+    ∷ Recording (recording 0 255 2 (event 0 0 0 0 0 2 0 ++ event 2 0 0 0 5 1 0))
+    (ended (opened 2 0 0)) (0 ∷ 37 ∷ []) none 63 (replicate 34 1)
     -- "P8 bypass: offset 4,095 length 1 passes, 4,096 gives 37"
     ∷ Recording (recording 1 255 1 (event 2 0 0 0 0 255 15)) (ended closed) (0 ∷ []) none 4094 (1 ∷ 7 ∷ [])
     ∷ Recording (recording 1 255 1 (event 2 0 0 0 0 0 16)) (ended closed) (37 ∷ []) none 4094 (1 ∷ 1 ∷ [])

@@ -4,29 +4,25 @@ use mathlib.Core.Logic.{_⊎_, inl, inr}
 use mathlib.Core.List.{List, [], _∷_, List·Memᴰ, List·Memᴰ·not-nil}
 use Prim.Native.Nat.{ℕ, zero, suc, _/_, _<_, _≤_}
 use native.Mathlib.Omega.{arith}
-use lib.Dec.{T, ltb, eqb, ltb→lt}
+use lib.Dec.{eqb}
+use borrow.Author.Tests.{eqb-true, eqb-false}
 use lib.ListN.{length, getD, take, set}
-use Rattle.laws.proofs.Choices.{by-cond}
-use Rattle.laws.proofs.Tests.{both-left, both-right}
+use Rattle.laws.proofs.Choices.{by-cond, by-test}
 use Rattle.words.specs.Dwords.{dwordsOf, putLe}
 use Rattle.command.specs.Order.{Command}
-use Rattle.command.proofs.Judged.{refusal}
-use Rattle.batch.specs.Vfes.{commandNumber}
-use Rattle.batch.specs.Reading.{readingOf}
-use Rattle.batch.specs.Answers.{recorded}
-use Rattle.scoreboard.specs.declared.Answer.{Answer}
-use Rattle.scoreboard.specs.declared.Verdict.{Verdict}
-use Rattle.scoreboard.specs.Objects.{Delta, Object, objectOf, objectsOf}
-use Rattle.scoreboard.specs.Run.{objectAt, verdictOf, Ran, begun, ran}
-use Rattle.scoreboard.specs.Waits.{Stalls, Blocks}
-use Rattle.scoreboard.specs.Answers.{objectsIn, ordered, bytesOrdered, refusedAnswer, ranAnswer, answerOf, recordsOf, statesOf, bytesAnswerOf, bytesRecordsOf, bytesStatesOf}
-use Rattle.scoreboard.specs.Claims.{Claims, Claimed, BytesClaimed, AllClaimed}
-use Rattle.scoreboard.proofs.Waits.{object-eight}
-use Rattle.scoreboard.proofs.Named.{bad-number, unknown, not-waiting, not-running, names-start, stalls, blocks}
-use Rattle.scoreboard.proofs.Runs.{ran-started}
+use Rattle.reading.specs.Vfes.{commandNumber}
+use Rattle.reading.specs.Reading.{readingOf}
+use Rattle.objects.specs.Objects.{Delta, Object, objectOf, objectsOf, objectAt}
+use Rattle.runs.specs.declared.Verdict.{Verdict}
+use Rattle.runs.specs.Run.{verdictOf, Ran, begun, ran}
+use Rattle.runs.specs.Waits.{Stalls, Blocks}
+use Rattle.runs.proofs.Waits.{object-eight}
+use Rattle.runs.proofs.Named.{bad-number, unknown, not-waiting, not-running, names-start, stalls, blocks, unnamed}
+use Rattle.runs.proofs.Runs.{ran-started, ran-unnamed}
+use Rattle.runs.proofs.Stops.{Stops, stops, ran-past, ran-long}
+use Rattle.scoreboard.specs.Answers.{objectsIn, ranAnswer, Result, refusedResult, orderOf, bytesOrderOf}
+use Rattle.scoreboard.specs.Claims.{TurnedAway, Began, Claims, Claimed, BytesClaimed, AllClaimed}
 use Rattle.scoreboard.proofs.ByOrder.{by-order, by-bytes-order}
-use Rattle.scoreboard.proofs.Stops.{Stops, stops, ran-past, ran-long}
-use Rattle.scoreboard.proofs.Orders.{map-ordered, map-bytes-ordered}
 
 -- every delta in play of an object of a batch is one of the eight
 abbrev Eight : List Object → Type 0
@@ -43,26 +39,17 @@ objects-eight all (c ∷ cs) =
     by-cond Eight (eqb (c .kind) 7) _ (objectsOf all cs)
     (λ _. eight-cons (objectOf (c .head) (commandNumber all (c .vfe) .head)) (objectsOf all cs) (object-eight _ _ _ _ _ _ _ _) (objects-eight all cs)) (λ _. objects-eight all cs)
 
--- all that the check gives back
-record Given : Type 0 where
-  answer : Answer
-  records : List ℕ
-  states : List ℕ
-
 module _ (capacity : ℕ) (batch run records states : List ℕ) where
-  abbrev Of : Given → Type 0
-  Of g = Claims capacity batch run records states (g .answer) (g .records) (g .states)
-
-  abbrev refusedGiven : ℕ → ℕ → Given
-  refusedGiven m p = record { answer = refusedAnswer m p; records = records; states = states }
-
-  abbrev wentGiven : List ℕ → Ran → Given
-  wentGiven filled x = record { answer = ranAnswer x; records = filled; states = x .states }
+  abbrev Of : Result (List ℕ) → Type 0
+  Of g = Claims capacity batch run records states g
 
   -- a refusal
-  claims-refused : (m p : ℕ) → 0 < m → m < 21 → (m ≡ 20 → (length states < length (objectsIn capacity batch)) × (p ≡ 0)) → Of (refusedGiven m p)
-  claims-refused m p l h few =
+  claims-refused : (m p : ℕ) → 0 < m → m < 21 → TurnedAway m ⊎ (m ≡ 20) → (m ≡ 20 → (length states < length (objectsIn capacity batch)) × (p ≡ 0))
+      → Of (refusedResult records states m p)
+  claims-refused m p l h which few =
       record {
+        cases = either which;
+        last = omega arith;
         refused = λ _ _. (refl, refl);
         short = few;
         room = λ g. absurd (no g);
@@ -76,22 +63,26 @@ module _ (capacity : ℕ) (batch run records states : List ℕ) where
         start = λ z. absurd (omega arith);
         stalls = λ z. absurd (omega arith);
         blocks = λ z. absurd (omega arith);
+        unnamed = λ _. (refl, refl);
         started = λ g k q n. absurd (no g);
         past = λ i q. refl;
         long = refl;
       }
     where
-      no : (m ≡ 0) ⊎ (20 < m) → ⊥
+      no : Began capacity batch run records states (refusedResult records states m p) → ⊥
       no (inl z) = omega arith
       no (inr z) = omega arith
 
-  claims-batch : (m p : ℕ) → T (refusal m) → Of (refusedGiven m p)
-  claims-batch m p t =
-      let l : 0 < m = ltb→lt 0 m (both-left (ltb 0 m) (ltb m 20) t) in
-      let h : m < 20 = ltb→lt m 20 (both-right (ltb 0 m) (ltb m 20) t) in claims-refused m p l (omega arith) (λ z. absurd (omega arith))
+      either : TurnedAway m ⊎ (m ≡ 20) → TurnedAway m ⊎ (m ≡ 20) ⊎ Began capacity batch run records states (refusedResult records states m p)
+      either (inl t) = inl t
+      either (inr e) = inr (inl e)
 
-  claims-short : length states < length (objectsIn capacity batch) → Of (refusedGiven 20 0)
-  claims-short q = claims-refused 20 0 (omega arith) (omega arith) (λ _. (q, refl))
+  claims-batch : (m p : ℕ) → TurnedAway m → Of (refusedResult records states m p)
+  claims-batch m p (inl t) = let l = t .0 in let h = t .1 in claims-refused m p (omega arith) (omega arith) (inl (inl t)) (λ z. absurd (omega arith))
+  claims-batch m p (inr e) = claims-refused m p (omega arith) (omega arith) (inl (inr e)) (λ z. absurd (omega arith))
+
+  claims-short : length states < length (objectsIn capacity batch) → Of (refusedResult records states 20 0)
+  claims-short q = claims-refused 20 0 (omega arith) (omega arith) (inr refl) (λ _. (q, refl))
 
   -- a run
   module _ (filled : List ℕ) (room : length (objectsIn capacity batch) ≤ length states) where
@@ -124,8 +115,8 @@ module _ (capacity : ℕ) (batch run records states : List ℕ) where
       number-is : verdictOf objects before event .number ≡ r .verdict .number
       number-is = sym (ap (λ (v : Verdict). v .number) (bad-event .1))
 
-      over : 20 < r .verdict .number
-      over = subst (λ (n : ℕ). 20 < n) number-is (bad-number objects before event (omega (arith, number-is)))
+      within : (20 < r .verdict .number) × (r .verdict .number < 26)
+      within = subst (λ (n : ℕ). (20 < n) × (n < 26)) number-is (bad-number objects before event (omega (arith, number-is)))
 
       named-24 : r .verdict .number ≡ 24 → Stalls objects before (event / 2) (r .verdict .object)
       named-24 z = subst⁻¹ (λ (v : Verdict). Stalls objects before (event / 2) (v .object)) (bad-event .1) (stalls objects before event (number-is ∙ z))
@@ -136,11 +127,25 @@ module _ (capacity : ℕ) (batch run records states : List ℕ) where
           subst⁻¹ (λ (v : Verdict). Blocks objects before (event / 2) (v .object) (v .delta)) (bad-event .1)
           (blocks objects before event (objects-eight cs cs (event / 2)) (number-is ∙ z))
 
-    claims-went : Of (wentGiven filled r)
-    claims-went =
+      named-none : r .verdict .number < 24 → (r .verdict .object ≡ 0) × (r .verdict .delta ≡ 0)
+      named-none z =
+          subst⁻¹ (λ (v : Verdict). (v .object ≡ 0) × (v .delta ≡ 0)) (bad-event .1) (unnamed objects before event (subst⁻¹ (λ (n : ℕ). n < 24) number-is z))
+
+    -- the number is 0, or that of a bad event
+    by-number : {C : Type 0} → (r .verdict .number ≡ 0 → C) → (0 < r .verdict .number → C) → C
+    by-number none some = by-test (eqb (r .verdict .number) 0) (λ e. none (eqb-true _ 0 e)) (λ e. some (let n = eqb-false _ 0 e in above (r .verdict .number) n))
+      where
+        above : (n : ℕ) → (n ≡ 0 → ⊥) → 0 < n
+        above zero h = absurd (h refl)
+        above (suc n) h = omega arith
+
+    claims-ran : Of (record { answer = ranAnswer (r .verdict) (r .position); records = filled; states = r .states })
+    claims-ran =
         record {
-          refused = λ l h. absurd (omega (arith, over l));
-          short = λ z. absurd (omega (arith, over (omega arith)));
+          cases = by-number (λ z. inr (inr (inl z))) (λ l. inr (inr (inr (within l .0))));
+          last = by-number (λ z. omega arith) (λ l. omega (arith, within l .1));
+          refused = λ l h. absurd (omega (arith, within l .0));
+          short = λ z. absurd (omega (arith, within (omega arith) .0));
           room = λ g. room;
           passed = λ g n q. s .passed n (omega (arith, at-place));
           kept = λ g. s .kept ∙ ap met at-place;
@@ -152,48 +157,27 @@ module _ (capacity : ℕ) (batch run records states : List ℕ) where
           start = λ z. names-start objects before event (omega (arith, number-is (omega arith)));
           stalls = λ z. named-24 (omega arith) z;
           blocks = λ z. named-25 (omega arith) z;
+          unnamed = λ z. by-number (λ e. ran-unnamed objects run 0 (begun (length objects) states) e) (λ l. named-none l z);
           started = λ g k q n. ran-started objects run states k q n;
           past = λ i q. ran-past objects run states i q;
           long = ran-long objects run states room;
         }
 
-  given-as : (g : Given) (answer : Answer) (filled left : List ℕ) → g .answer ≡ answer → g .records ≡ filled → g .states ≡ left → Of g
-      → Claims capacity batch run records states answer filled left
-  given-as g answer filled left ea er es h =
-      subst (λ (x : Answer). Claims capacity batch run records states x filled left) ea
-      (subst (λ (x : List ℕ). Claims capacity batch run records states (g .answer) x left) er
-      (subst (λ (x : List ℕ). Claims capacity batch run records states (g .answer) (g .records) x) es h))
-
 module _ (capacity : ℕ) (batch run records states : List ℕ) where
   -- LAW: the dword entry
   pub claimed : Claimed capacity batch run records states
-  unfolding answerOf recordsOf statesOf
+  unfolding orderOf
   claimed =
-      let filled = recorded set capacity batch records in
-      let off = refusedGiven capacity batch run records states in
-      let on = wentGiven capacity batch run records states filled in
-      given-as capacity batch run records states (ordered off on capacity (length records) batch run states) _ _ _
-      (map-ordered (λ (g : Given). g .answer) off on capacity (length records) batch run states)
-      (map-ordered (λ (g : Given). g .records) off on capacity (length records) batch run states)
-      (map-ordered (λ (g : Given). g .states) off on capacity (length records) batch run states)
-      (by-order off on (Of capacity batch run records states) (claims-batch capacity batch run records states) capacity (length records) batch run states
-      (claims-short capacity batch run records states) (claims-went capacity batch run records states filled))
+      by-order set capacity (length records) batch run records states (Of capacity batch run records states) (claims-batch capacity batch run records states)
+      (claims-short capacity batch run records states) (claims-ran capacity batch run records states _)
 
   -- LAW: the byte entry
   pub bytes-claimed : BytesClaimed capacity batch run records states
-  unfolding bytesAnswerOf bytesRecordsOf bytesStatesOf
   bytes-claimed =
       let b = dwordsOf batch in
       let e = dwordsOf run in
-      let filled = recorded putLe capacity b records in
-      let off = refusedGiven capacity b e records states in
-      let on = wentGiven capacity b e records states filled in
-      given-as capacity b e records states (bytesOrdered off on capacity (length records / 4) batch run states) _ _ _
-      (map-bytes-ordered (λ (g : Given). g .answer) off on capacity (length records / 4) batch run states)
-      (map-bytes-ordered (λ (g : Given). g .records) off on capacity (length records / 4) batch run states)
-      (map-bytes-ordered (λ (g : Given). g .states) off on capacity (length records / 4) batch run states)
-      (by-bytes-order off on (Of capacity b e records states) (claims-batch capacity b e records states) capacity (length records / 4) batch run states
-      (claims-short capacity b e records states) (claims-went capacity b e records states filled))
+      by-bytes-order capacity batch run records states (Of capacity b e records states) (claims-batch capacity b e records states)
+      (claims-short capacity b e records states) (claims-ran capacity b e records states _)
 
 pub all-claimed : AllClaimed
 all-claimed capacity batch run records states = (claimed capacity batch run records states, bytes-claimed capacity batch run records states)

@@ -1,15 +1,4 @@
-pub mod Waits
-pub mod Named
-pub mod Runs
-pub mod Lowest
-pub mod RecordWords
-pub mod Spots
-pub mod Searches
-pub mod StartRows
-pub mod RunTurns
-pub mod ByOrder
-pub mod Stops
-pub mod RecordedObjects
 pub mod Orders
+pub mod ByOrder
 pub mod Claimed
 pub mod Isolation

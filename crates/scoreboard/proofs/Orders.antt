@@ -1,29 +1,33 @@
--- One decision of the order check, whatever is made of it. Assumes nothing.
+-- The core of the order check, and each entry from it. Assumes nothing.
 use mathlib.Core.Path.{_≡_, refl, sym, ap, ap₂, subst, _∙_}
 use mathlib.Core.Bool.{Bool, true, false, cond}
 use mathlib.Core.List.{List, []}
 use Prim.Native.Nat.{ℕ, _*_, _/_, _%_, _<_, _≤_}
 use native.Mathlib.Omega.{arith}
-use lib.Dec.{ltb, eqb}
+use lib.Dec.{ltb}
 use lib.ListN.{length, set}
 use borrow.Author.Tests.{eq-eqb, ne-eqb, lt-ltb, le-ltb}
 use Rattle.words.specs.Dwords.{dwordsOf, dwordsIn, putLe, Buffer, buffer, putIn}
 use Rattle.words.proofs.Dwords.{in-none, in-dwords, length-dwords}
 use Rattle.command.specs.Order.{Command}
-use Rattle.batch.specs.declared.Scanned.{Scanned}
-use Rattle.batch.specs.declared.Scanned.the-variants.{Stopped, Ended}
-use Rattle.batch.specs.Reading.{readingOf}
-use Rattle.batch.specs.Answers.{decided, decisionOf, recorded}
-use Rattle.batch.proofs.Decisions.{by-refusal, by-success, fits-limit, fits-records, fits-commands, fits-objects, map-decided, written-map, as-bytes}
-use Rattle.batch.proofs.Counts.{passed-count}
-use Rattle.batch.proofs.Vfes.{under-vfe}
-use Rattle.batch.proofs.Slots.{written-length}
+use Rattle.reading.specs.declared.Scanned.{Scanned}
+use Rattle.reading.specs.declared.Scanned.the-variants.{Stopped, Ended}
+use Rattle.reading.specs.Reading.{readingOf}
+use Rattle.reading.specs.Decision.{decided, decisionOf}
+use Rattle.records.specs.Records.{recorded}
+use Rattle.reading.proofs.Decisions.{by-refusal, by-success, fits-limit, fits-records, fits-commands, fits-objects, map-decided}
+use Rattle.records.proofs.Buffers.{written-view, written-bytes}
+use Rattle.reading.proofs.Counts.{passed-count}
+use Rattle.reading.proofs.Vfes.{under-vfe}
+use Rattle.records.proofs.Slots.{written-length}
+use Rattle.objects.specs.Objects.{Object}
+use Rattle.objects.specs.Recorded.{objectsRecorded}
+use Rattle.objects.proofs.RecordedObjects.{objects-count, recorded-objects}
+use Rattle.runs.specs.declared.RunEnd.{RunEnd}
+use Rattle.runs.specs.Run.{Ran, runFrom, begun, ran}
+use Rattle.runs.specs.Starts.{Running}
 use Rattle.scoreboard.specs.declared.Answer.{Answer}
-use Rattle.scoreboard.specs.Objects.{Object}
-use Rattle.scoreboard.specs.Run.{Ran, runFrom, begun, ran}
-use Rattle.scoreboard.specs.Answers.{objectsIn, begins, ordered, bytesOrdered, refusedAnswer, ranAnswer, answerOf, bufferOf, recordsOf, statesOf, bytesAnswerOf, bytesRecordsOf, bytesStatesOf}
-use Rattle.scoreboard.specs.Recorded.{objectsRecorded}
-use Rattle.scoreboard.proofs.RecordedObjects.{objects-count, recorded-objects}
+use Rattle.scoreboard.specs.Answers.{objectsIn, refusedAnswer, ranAnswer, Result, refusedResult, ranResult, acceptedResult, orderIn, bufferOrderOf, orderOf, bytesOrderOf}
 
 -- an accepted batch has as many objects as the first pass counts
 module _ (capacity room : ℕ) (b : List ℕ) (w : Scanned) (c d o : ℕ) (ew : w ≡ decisionOf capacity room b) (e : w ≡ Ended c d o) where
@@ -44,191 +48,135 @@ module _ (capacity room : ℕ) (b : List ℕ) (w : Scanned) (c d o : ℕ) (ew : 
     commands-are : n ≡ c
     commands-are = fits-commands capacity room b w c d o ew e
 
-    pub filled-room : 16 * c ≤ length r′
+    filled-room : 16 * c ≤ length r′
     filled-room =
         let l : length r′ ≡ length r = ap length ef ∙ written-length cs 0 r in
         let x = room-left in
         let y = commands-are in omega arith
 
-    pub filled-limit : c ≤ 16384
+    filled-limit : c ≤ 16384
     filled-limit = let x = passed-count capacity b in let y = fits-limit capacity room b w c d o ew e in let z = commands-are in omega arith
 
-    recorded-are : objectsRecorded r′ 0 c ≡ objectsIn capacity b
-    recorded-are =
-        ap₂ (λ (l : List ℕ) (x : ℕ). objectsRecorded l 0 x) ef (sym commands-are)
-        ∙ recorded-objects cs r (under-vfe capacity b) room-left
+    recorded-are : objectsRecorded r′ c ≡ objectsIn capacity b
+    recorded-are = ap₂ objectsRecorded ef (sym commands-are) ∙ recorded-objects cs r (under-vfe capacity b) room-left
 
-    pub filled-objects : o ≡ length (objectsRecorded r′ 0 c)
-    filled-objects = sym objects-are ∙ ap length (sym recorded-are)
+    filled-running : (s : List ℕ) → o ≤ length s → Running r′ c o s
+    filled-running s h =
+        record {
+          records = record { room = filled-room; limit = filled-limit };
+          count = sym objects-are ∙ ap length (sym recorded-are);
+          room = h;
+        }
 
-    filled-run : (run states s′ : List ℕ) → s′ ≡ begun o states → runFrom (objectsRecorded r′ 0 c) run 0 s′ ≡ ran (objectsIn capacity b) run states
+    filled-run : (run states s′ : List ℕ) → s′ ≡ begun o states → runFrom (objectsRecorded r′ c) run 0 s′ ≡ ran (objectsIn capacity b) run states
     filled-run run states s′ es =
         ap₂ (λ (x : List Object) (s : List ℕ). runFrom x run 0 s) recorded-are (es ∙ ap (λ (m : ℕ). begun m states) (sym objects-are))
 
--- what is made of a refusal and of a run
-module _ {A : Type 0} (refused : ℕ → ℕ → A) (went : Ran → A) (capacity room : ℕ) (b run states : List ℕ) (w : Scanned) (ew : w ≡ decisionOf capacity room b) (r : A) where
-  abbrev accepted : ℕ → ℕ → A
-  accepted c d = begins refused went (objectsIn capacity b) run states
+-- The core: L is the count of the record buffer's words, as the code has it.
+module _ (capacity : ℕ) (b run : List ℕ) (r : Buffer) (states : List ℕ) (L : ℕ) (el : L ≡ length (r .view)) (w : Scanned) (ew : w ≡ decisionOf capacity L b) where
+  abbrev d : List ℕ
+  d = r .view
 
-  order-refused : (m p : ℕ) → w ≡ Stopped m p → r ≡ refused m p → r ≡ ordered refused went capacity room b run states
-  unfolding ordered
-  order-refused m p e q = by-refusal refused accepted capacity room b w ew m p r e q
-
-  module _ (c d o : ℕ) (e : w ≡ Ended c d o) where
-    count : length (objectsIn capacity b) ≡ o
-    count = objects-are capacity room b w c d o ew e
-
-    order-short : length states < o → r ≡ refused 20 0 → r ≡ ordered refused went capacity room b run states
-    unfolding ordered
-    order-short h q =
-        let l : length states < length (objectsIn capacity b) = let x = count in omega arith in
-        by-success refused accepted capacity room b w ew c d o r e (q ∙ simp (lt-ltb (length states) (length (objectsIn capacity b)) l))
-
-    order-went : o ≤ length states → r ≡ went (ran (objectsIn capacity b) run states) → r ≡ ordered refused went capacity room b run states
-    unfolding ordered
-    order-went h q =
-        let l : length (objectsIn capacity b) ≤ length states = let x = count in omega arith in
-        by-success refused accepted capacity room b w ew c d o r e (q ∙ simp (le-ltb (length states) (length (objectsIn capacity b)) l))
-
--- The core: d are the dwords of the record buffer, L their count as the code has it, r the buffer itself.
-module _ (capacity : ℕ) (b run d states : List ℕ) (r : Buffer) (L : ℕ) (el : L ≡ length d) (w : Scanned) (ew : w ≡ decisionOf capacity L b) where
   decides : w ≡ decisionOf capacity (length d) b
   decides = ew ∙ ap (λ (x : ℕ). decisionOf capacity x b) el
 
-  abbrev Kept : Answer → Type 0
-  Kept a =
-      (a ≡ answerOf capacity b run d states)
-      × (r ≡ bufferOf capacity b run (length d) r states)
-      × (d ≡ recordsOf capacity b run d states)
-      × (states ≡ statesOf capacity b run d states)
+  abbrev accepted : ℕ → ℕ → Result Buffer
+  accepted c d = acceptedResult putIn capacity (length (r .view)) b run r states
 
-  pub core-refused : (m p : ℕ) (a : Answer) → w ≡ Stopped m p → a ≡ refusedAnswer m p → Kept a
-  unfolding answerOf bufferOf recordsOf statesOf
-  core-refused m p a e q = (
-    order-refused refusedAnswer ranAnswer capacity (length d) b run states w decides a m p e q,
-    order-refused (λ m p. r) (λ x. recorded putIn capacity b r) capacity (length d) b run states w decides r m p e refl,
-    order-refused (λ m p. d) (λ x. recorded set capacity b d) capacity (length d) b run states w decides d m p e refl,
-    order-refused (λ m p. states) (λ x. x .states) capacity (length d) b run states w decides states m p e refl,
-  )
+  pub core-refused : (m p : ℕ) (a : Answer) → w ≡ Stopped m p → a ≡ refusedAnswer m p → record { answer = a; records = r; states = states } ≡ bufferOrderOf capacity b run r states
+  unfolding orderIn
+  core-refused m p a e q =
+      by-refusal (refusedResult r states) accepted capacity (length d) b w decides m p _ e (ap (λ (x : Answer). record { answer = x; records = r; states = states }) q)
 
   module _ (c x o : ℕ) (e : w ≡ Ended c x o) where
-    pub core-short : (a : Answer) → length states < o → a ≡ refusedAnswer 20 0 → Kept a
-    unfolding answerOf bufferOf recordsOf statesOf
-    core-short a h q = (
-      order-short refusedAnswer ranAnswer capacity (length d) b run states w decides a c x o e h q,
-      order-short (λ m p. r) (λ x. recorded putIn capacity b r) capacity (length d) b run states w decides r c x o e h refl,
-      order-short (λ m p. d) (λ x. recorded set capacity b d) capacity (length d) b run states w decides d c x o e h refl,
-      order-short (λ m p. states) (λ x. x .states) capacity (length d) b run states w decides states c x o e h refl,
-    )
+    count : length (objectsIn capacity b) ≡ o
+    count = objects-are capacity L b w c x o ew e
 
-    pub core-went : (a : Answer) (r′ : Buffer) (d′ s s′ : List ℕ) → o ≤ length states → r′ ≡ recorded putIn capacity b r → d′ ≡ recorded set capacity b d → s ≡ begun o states
-        → a ≡ ranAnswer (runFrom (objectsRecorded d′ 0 c) run 0 s) → s′ ≡ runFrom (objectsRecorded d′ 0 c) run 0 s .states
-        → (a ≡ answerOf capacity b run d states) × (r′ ≡ bufferOf capacity b run (length d) r states) × (d′ ≡ recordsOf capacity b run d states) × (s′ ≡ statesOf capacity b run d states)
-    unfolding answerOf bufferOf recordsOf statesOf
-    core-went a r′ d′ s s′ h er ed es ea e′ =
-        let f = filled-run capacity L b w c x o ew e d d′ el ed run states s es in (
-          order-went refusedAnswer ranAnswer capacity (length d) b run states w decides a c x o e h (ea ∙ ap ranAnswer f),
-          order-went (λ m p. r) (λ x. recorded putIn capacity b r) capacity (length d) b run states w decides r′ c x o e h er,
-          order-went (λ m p. d) (λ x. recorded set capacity b d) capacity (length d) b run states w decides d′ c x o e h ed,
-          order-went (λ m p. states) (λ x. x .states) capacity (length d) b run states w decides s′ c x o e h (e′ ∙ ap (λ (y : Ran). y .states) f),
-        )
+    filled-view : (r′ : Buffer) → r′ ≡ recorded putIn capacity b r → r′ .view ≡ recorded set capacity b d
+    filled-view r′ er = ap (λ (y : Buffer). y .view) er ∙ written-view (readingOf capacity b .passed) 0 r
 
--- a function of what is made of it
-module _ {A B : Type 0} (f : A → B) (refused : ℕ → ℕ → A) (went : Ran → A) where
-  map-begins : (objects : List Object) (run states : List ℕ) → f (begins refused went objects run states) ≡ begins (λ m p. f (refused m p)) (λ x. f (went x)) objects run states
-  map-begins objects run states = go (ltb (length states) (length objects))
+    pub filled-known : (r′ : Buffer) (s : List ℕ) → r′ ≡ recorded putIn capacity b r → o ≤ length s → Running (r′ .view) c o s
+    filled-known r′ s er h = filled-running capacity L b w c x o ew e d (r′ .view) el (filled-view r′ er) s h
+
+    pub core-short : (a : Answer) → length states < o → a ≡ refusedAnswer 20 0 → record { answer = a; records = r; states = states } ≡ bufferOrderOf capacity b run r states
+    unfolding orderIn
+    core-short a h q =
+        let l : length states < length (objectsIn capacity b) = let z = count in omega arith in
+        by-success (refusedResult r states) accepted capacity (length d) b w decides c x o _ e
+        (ap (λ (y : Answer). record { answer = y; records = r; states = states }) q ∙ simp (lt-ltb (length states) (length (objectsIn capacity b)) l))
+
+    pub core-ran : (a : Answer) (end : RunEnd) (r′ : Buffer) (s s′ : List ℕ) → o ≤ length states → r′ ≡ recorded putIn capacity b r → s ≡ begun o states
+        → record { verdict = end .verdict; position = end .position; states = s′ } ≡ runFrom (objectsRecorded (r′ .view) c) run 0 s → a ≡ ranAnswer (end .verdict) (end .position)
+        → record { answer = a; records = r′; states = s′ } ≡ bufferOrderOf capacity b run r states
+    unfolding orderIn
+    core-ran a end r′ s s′ h er es ee ea =
+        let l : length (objectsIn capacity b) ≤ length states = let z = count in omega arith in
+        let f = ee ∙ filled-run capacity L b w c x o ew e d (r′ .view) el (filled-view r′ er) run states s es in
+        by-success (refusedResult r states) accepted capacity (length d) b w decides c x o _ e
+        (ap (λ (y : Answer). record { answer = y; records = r′; states = s′ }) ea
+        ∙ ap₂ (λ (y : Buffer) (z : Ran). record { answer = ranAnswer (z .verdict) (z .position); records = y; states = z .states }) er f
+        ∙ simp (le-ltb (length states) (length (objectsIn capacity b)) l))
+
+-- a result with another record buffer
+abbrev withRecords : {B C : Type 0} → (B → C) → Result B → Result C
+withRecords f x = record { answer = x .answer; records = f (x .records); states = x .states }
+
+-- what is seen of a record buffer
+module _ {B C : Type 0} (put : B → ℕ → ℕ → B) (put′ : C → ℕ → ℕ → C) (f : B → C) (capacity room : ℕ) (b run : List ℕ) (r : B) (states : List ℕ)
+    (h : f (recorded put capacity b r) ≡ recorded put′ capacity b (f r)) where
+  seen-ran : withRecords f (ranResult put capacity room b run r states) ≡ ranResult put′ capacity room b run (f r) states
+  seen-ran =
+      let x = ran (objectsIn capacity b) run states in
+      ap (λ (y : C). record { answer = ranAnswer (x .verdict) (x .position); records = y; states = x .states }) h
+
+  seen-accepted : withRecords f (acceptedResult put capacity room b run r states) ≡ acceptedResult put′ capacity room b run (f r) states
+  seen-accepted = go (ltb (length states) (length (objectsIn capacity b)))
     where
-      go : (t : Bool) → f (cond t (refused 20 0) (went (ran objects run states))) ≡ cond t (f (refused 20 0)) (f (went (ran objects run states)))
+      go : (t : Bool) → withRecords f (cond t (refusedResult r states 20 0) (ranResult put capacity room b run r states))
+          ≡ cond t (refusedResult (f r) states 20 0) (ranResult put′ capacity room b run (f r) states)
       go true = refl
-      go false = refl
+      go false = seen-ran
 
-  pub map-ordered : (capacity room : ℕ) (b run states : List ℕ) → f (ordered refused went capacity room b run states) ≡ ordered (λ m p. f (refused m p)) (λ x. f (went x)) capacity room b run states
-  unfolding ordered
-  map-ordered capacity room b run states =
-      map-decided f refused (λ c d. begins refused went (objectsIn capacity b) run states) capacity room b
-      ∙ ap (λ (y : B). decided (λ m p. f (refused m p)) (λ c d. y) capacity room b) (map-begins (objectsIn capacity b) run states)
+  seen-order : withRecords f (orderIn put capacity room b run r states) ≡ orderIn put′ capacity room b run (f r) states
+  unfolding orderIn
+  seen-order =
+      map-decided (withRecords f) (refusedResult r states) (λ c d. acceptedResult put capacity room b run r states) capacity room b
+      ∙ ap (λ (y : Result C). decided (refusedResult (f r) states) (λ c d. y) capacity room b) seen-accepted
 
-  pub map-bytes-ordered : (capacity room : ℕ) (b run states : List ℕ) → f (bytesOrdered refused went capacity room b run states) ≡ bytesOrdered (λ m p. f (refused m p)) (λ x. f (went x)) capacity room b run states
-  unfolding bytesOrdered
-  map-bytes-ordered capacity room b run states = go (eqb (length b % 4) 0) (eqb (length run % 4) 0)
-    where
-      o : A
-      o = ordered refused went capacity room (dwordsOf b) (dwordsOf run) states
-
-      o′ : B
-      o′ = ordered (λ m p. f (refused m p)) (λ x. f (went x)) capacity room (dwordsOf b) (dwordsOf run) states
-
-      go : (t u : Bool) → f (cond t (cond u o (refused 17 (length run / 4))) (refused 17 (length b / 4)))
-          ≡ cond t (cond u o′ (f (refused 17 (length run / 4)))) (f (refused 17 (length b / 4)))
-      go true true = map-ordered capacity room (dwordsOf b) (dwordsOf run) states
-      go true false = refl
-      go false u = refl
-
--- the dword entry: from what the core shows of dwords, with the bytes left empty
-pub dwords-records : (capacity : ℕ) (b run r states r′ none : List ℕ) → length none ≡ 0
-    → dwordsIn r′ none ≡ recordsOf capacity (dwordsIn b []) (dwordsIn run []) (dwordsIn r []) states → r′ ≡ recordsOf capacity b run r states
-unfolding dwordsIn
-dwords-records capacity b run r states r′ none z e = sym (in-dwords r′ none z) ∙ e
-
--- the byte entry
+-- the dword entry: the core with the bytes left empty
 module _ (capacity : ℕ) (b run r states : List ℕ) where
-  -- 17 of the batch
-  module _ (q : length b % 4 ≡ 0 → ⊥) where
-    pub odd-batch-answer : (a : Answer) → a ≡ refusedAnswer 17 (length b / 4) → a ≡ bytesAnswerOf capacity b run r states
-    unfolding bytesAnswerOf bytesOrdered
-    odd-batch-answer a e = e ∙ simp (ne-eqb (length b % 4) 0 q)
+  pub dwords-order : (a : Answer) (r′ none s′ : List ℕ) → length none ≡ 0
+      → record { answer = a; records = buffer r′ none; states = s′ } ≡ bufferOrderOf capacity (dwordsIn b []) (dwordsIn run []) (buffer r []) states
+      → record { answer = a; records = r′; states = s′ } ≡ orderOf capacity b run r states
+  unfolding orderOf dwordsIn
+  dwords-order a r′ none s′ z e =
+      ap (λ (l : List ℕ). record { answer = a; records = l; states = s′ }) (sym (in-dwords r′ none z))
+      ∙ ap (withRecords (λ (x : Buffer). x .view)) e
+      ∙ seen-order putIn set (λ (x : Buffer). x .view) capacity (length r) b run (buffer r []) states (written-view (readingOf capacity b .passed) 0 (buffer r []))
 
-    pub odd-batch-records : r ≡ bytesRecordsOf capacity b run r states
-    unfolding bytesRecordsOf bytesOrdered
-    odd-batch-records = simp (ne-eqb (length b % 4) 0 q)
-
-    pub odd-batch-states : states ≡ bytesStatesOf capacity b run r states
-    unfolding bytesStatesOf bytesOrdered
-    odd-batch-states = simp (ne-eqb (length b % 4) 0 q)
+  -- the byte entry: 17 of the batch
+  pub odd-batch : (a : Answer) → (length b % 4 ≡ 0 → ⊥) → a ≡ refusedAnswer 17 (length b / 4) → record { answer = a; records = r; states = states } ≡ bytesOrderOf capacity b run r states
+  unfolding bytesOrderOf
+  odd-batch a q e = ap (λ (x : Answer). record { answer = x; records = r; states = states }) e ∙ simp (ne-eqb (length b % 4) 0 q)
 
   module _ (p : length b % 4 ≡ 0) where
     -- 17 of the run
-    module _ (q : length run % 4 ≡ 0 → ⊥) where
-      pub odd-run-answer : (a : Answer) → a ≡ refusedAnswer 17 (length run / 4) → a ≡ bytesAnswerOf capacity b run r states
-      unfolding bytesAnswerOf bytesOrdered
-      odd-run-answer a e = e ∙ simp (eq-eqb (length b % 4) 0 p, ne-eqb (length run % 4) 0 q)
+    pub odd-run : (a : Answer) → (length run % 4 ≡ 0 → ⊥) → a ≡ refusedAnswer 17 (length run / 4) → record { answer = a; records = r; states = states } ≡ bytesOrderOf capacity b run r states
+    unfolding bytesOrderOf
+    odd-run a q e = ap (λ (x : Answer). record { answer = x; records = r; states = states }) e ∙ simp (eq-eqb (length b % 4) 0 p, ne-eqb (length run % 4) 0 q)
 
-      pub odd-run-records : r ≡ bytesRecordsOf capacity b run r states
-      unfolding bytesRecordsOf bytesOrdered
-      odd-run-records = simp (eq-eqb (length b % 4) 0 p, ne-eqb (length run % 4) 0 q)
-
-      pub odd-run-states : states ≡ bytesStatesOf capacity b run r states
-      unfolding bytesStatesOf bytesOrdered
-      odd-run-states = simp (eq-eqb (length b % 4) 0 p, ne-eqb (length run % 4) 0 q)
-
+    -- the core with the dwords left empty
     module _ (q : length run % 4 ≡ 0) where
-      -- what the core made of the dwords
-      as-dwords : {A : Type 0} (refused : ℕ → ℕ → A) (went : Ran → A) → ordered refused went capacity (length (dwordsIn [] r)) (dwordsIn [] b) (dwordsIn [] run) states
-          ≡ bytesOrdered refused went capacity (length r / 4) b run states
-      unfolding bytesOrdered
-      as-dwords refused went =
-          ap (λ (x : ℕ). ordered refused went capacity x (dwordsIn [] b) (dwordsIn [] run) states) (ap length (in-none r) ∙ length-dwords r)
-          ∙ ap₂ (λ (x y : List ℕ). ordered refused went capacity (length r / 4) x y states) (in-none b) (in-none run)
+      whole : bufferOrderOf capacity (dwordsIn [] b) (dwordsIn [] run) (buffer [] r) states ≡ orderIn putIn capacity (length r / 4) (dwordsOf b) (dwordsOf run) (buffer [] r) states
+      whole =
+          ap (λ (x : ℕ). orderIn putIn capacity x (dwordsIn [] b) (dwordsIn [] run) (buffer [] r) states) (ap length (in-none r) ∙ length-dwords r)
+          ∙ ap₂ (λ (x y : List ℕ). orderIn putIn capacity (length r / 4) x y (buffer [] r) states) (in-none b) (in-none run)
+
+      pub bytes-order : (a : Answer) (none r′ s′ : List ℕ)
+          → record { answer = a; records = buffer none r′; states = s′ } ≡ bufferOrderOf capacity (dwordsIn [] b) (dwordsIn [] run) (buffer [] r) states
+          → record { answer = a; records = r′; states = s′ } ≡ bytesOrderOf capacity b run r states
+      unfolding bytesOrderOf
+      bytes-order a none r′ s′ e =
+          ap (withRecords (λ (x : Buffer). x .bytes)) (e ∙ whole)
+          ∙ seen-order putIn putLe (λ (x : Buffer). x .bytes) capacity (length r / 4) (dwordsOf b) (dwordsOf run) (buffer [] r) states (written-bytes (readingOf capacity (dwordsOf b) .passed) 0 (buffer [] r))
           ∙ simp (eq-eqb (length b % 4) 0 p, eq-eqb (length run % 4) 0 q)
-
-      pub bytes-answer : (a : Answer) → a ≡ answerOf capacity (dwordsIn [] b) (dwordsIn [] run) (dwordsIn [] r) states → a ≡ bytesAnswerOf capacity b run r states
-      unfolding answerOf bytesAnswerOf
-      bytes-answer a e = e ∙ as-dwords refusedAnswer ranAnswer
-
-      pub bytes-states : (s′ : List ℕ) → s′ ≡ statesOf capacity (dwordsIn [] b) (dwordsIn [] run) (dwordsIn [] r) states → s′ ≡ bytesStatesOf capacity b run r states
-      unfolding statesOf bytesStatesOf
-      bytes-states s′ e = e ∙ as-dwords (λ m p. states) (λ x. x .states)
-
-      records-bytes : recorded putIn capacity (dwordsIn [] b) (buffer [] r) .bytes ≡ recorded putLe capacity (dwordsOf b) r
-      records-bytes =
-          ap (λ (x : Buffer). x .bytes)
-          (ap (λ (l : List ℕ). recorded putIn capacity l (buffer [] r)) (in-none b)
-          ∙ sym (written-map putLe putIn (λ (x : List ℕ). buffer [] x) as-bytes (readingOf capacity (dwordsOf b) .passed) 0 r))
-
-      pub bytes-records : (none r′ : List ℕ) → buffer none r′ ≡ bufferOf capacity (dwordsIn [] b) (dwordsIn [] run) (length (dwordsIn [] r)) (buffer [] r) states → r′ ≡ bytesRecordsOf capacity b run r states
-      unfolding bufferOf bytesRecordsOf
-      bytes-records none r′ e =
-          ap (λ (x : Buffer). x .bytes) e
-          ∙ map-ordered (λ (x : Buffer). x .bytes) (λ m p. buffer [] r) (λ x. recorded putIn capacity (dwordsIn [] b) (buffer [] r)) capacity (length (dwordsIn [] r)) (dwordsIn [] b) (dwordsIn [] run) states
-          ∙ ap (λ (l : List ℕ). ordered (λ m p. r) (λ x. l) capacity (length (dwordsIn [] r)) (dwordsIn [] b) (dwordsIn [] run) states) records-bytes
-          ∙ as-dwords (λ m p. r) (λ x. recorded putLe capacity (dwordsOf b) r)

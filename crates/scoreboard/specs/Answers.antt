@@ -5,61 +5,64 @@ use mathlib.Core.List.{List}
 use lib.Dec.{ltb}
 use lib.ListN.{length, set}
 use Rattle.words.specs.Dwords.{dwordsOf, putLe, Buffer, putIn}
-use Rattle.batch.specs.Reading.{readingOf}
-use Rattle.batch.specs.Answers.{decided, recorded, wholeDwords}
+use Rattle.reading.specs.Reading.{readingOf}
+use Rattle.reading.specs.Decision.{decided, wholeDwords}
+use Rattle.records.specs.Records.{recorded}
+use Rattle.objects.specs.Objects.{Object, objectsOf}
+use Rattle.runs.specs.declared.Verdict.{Verdict}
+use Rattle.runs.specs.Run.{ran}
 use Rattle.scoreboard.specs.declared.Answer.{Answer}
-use Rattle.scoreboard.specs.Objects.{Object, objectsOf}
-use Rattle.scoreboard.specs.Run.{Ran, ran}
 
 -- the objects of a batch that is read with a capacity in rows
 abbrev pub objectsIn : ℕ → List ℕ → List Object
 objectsIn capacity b = let cs = readingOf capacity b .passed in objectsOf cs cs
-
--- One decision for all that the check gives back: what a refusal (number and place) or what a run ends with means is the argument. So the
--- answer and each buffer go by the same rules.
-module _ {A : Type 0} (refused : ℕ → ℕ → A) (went : Ran → A) where
-  -- "then 20 (fewer state bytes than objects; position 0)"
-  abbrev pub begins : List Object → List ℕ → List ℕ → A
-  begins objects run states = cond (ltb (length states) (length objects)) (refused 20 0) (went (ran objects run states))
-
-  -- "Refused with 1 to 10 .. of the batch, then 20": room is the record buffer's words
-  unfoldable pub ordered : ℕ → ℕ → List ℕ → List ℕ → List ℕ → A
-  ordered capacity room b run states = decided refused (λ c d. begins (objectsIn capacity b) run states) capacity room b
-
-  -- the byte entry: 17 of "batch, then run", then as above
-  unfoldable pub bytesOrdered : ℕ → ℕ → List ℕ → List ℕ → List ℕ → A
-  bytesOrdered capacity room b run states = wholeDwords refused b (wholeDwords refused run (ordered capacity room (dwordsOf b) (dwordsOf run) states))
 
 -- "An answer is every number returned." Object and delta are 0 where the number names none.
 abbrev pub refusedAnswer : ℕ → ℕ → Answer
 refusedAnswer number place = record { number = number; place = place; object = 0; delta = 0 }
 
 -- "A run taken to its end answers 0 and its event count"; "the first bad event stops the run with its position"
-abbrev pub ranAnswer : Ran → Answer
-ranAnswer r = record { number = r .verdict .number; place = r .position; object = r .verdict .object; delta = r .verdict .delta }
+abbrev pub ranAnswer : Verdict → ℕ → Answer
+ranAnswer v position = record { number = v .number; place = position; object = v .object; delta = v .delta }
 
--- the dword entry, given the capacity in rows, the batch, the run, the record buffer r and the state bytes
-unfoldable pub answerOf : ℕ → List ℕ → List ℕ → List ℕ → List ℕ → Answer
-answerOf capacity b run r states = ordered refusedAnswer ranAnswer capacity (length r) b run states
+-- What the check gives back: its answer, and the record buffer and the state bytes at exit.
+pub record Result (B : Type 0) : Type 0 where
+  pub answer : Answer
+  pub records : B
+  pub states : List ℕ
 
--- "Refused with 1 to 10 .. then 20 ..: nothing changes"; else "the records are filled"
-unfoldable pub recordsOf : ℕ → List ℕ → List ℕ → List ℕ → List ℕ → List ℕ
-recordsOf capacity b run r states = ordered (λ m p. r) (λ x. recorded set capacity b r) capacity (length r) b run states
+-- "Refused with 1 to 10 (or 17) of the batch, then 20 ..: nothing changes"
+abbrev pub refusedResult : {B : Type 0} → B → List ℕ → ℕ → ℕ → Result B
+refusedResult r states number place = record { answer = refusedAnswer number place; records = r; states = states }
 
--- the same of a record buffer that is dwords or bytes, with room for so many words
-unfoldable pub bufferOf : ℕ → List ℕ → List ℕ → ℕ → Buffer → List ℕ → Buffer
-bufferOf capacity b run room r states = ordered (λ m p. r) (λ x. recorded putIn capacity b r) capacity room b run states
+-- The check, given the capacity in rows, the batch b, the run, the record buffer r, with room for so many words, and the state bytes. `put`
+-- stores a word of the record buffer.
+module _ {B : Type 0} (put : B → ℕ → ℕ → B) (capacity room : ℕ) (b run : List ℕ) (r : B) (states : List ℕ) where
+  -- "Else the records are filled", and the run goes on to its end or to "the first bad event", "earlier effects kept"
+  abbrev pub ranResult : Result B
+  ranResult =
+      let x = ran (objectsIn capacity b) run states in
+      record { answer = ranAnswer (x .verdict) (x .position); records = recorded put capacity b r; states = x .states }
 
--- "earlier effects kept"
-unfoldable pub statesOf : ℕ → List ℕ → List ℕ → List ℕ → List ℕ → List ℕ
-statesOf capacity b run r states = ordered (λ m p. states) (λ x. x .states) capacity (length r) b run states
+  -- "then 20 (fewer state bytes than objects; position 0)"
+  abbrev pub acceptedResult : Result B
+  acceptedResult = cond (ltb (length states) (length (objectsIn capacity b))) (refusedResult r states 20 0) ranResult
 
--- the byte entry: "Records there take 64 bytes each"
-unfoldable pub bytesAnswerOf : ℕ → List ℕ → List ℕ → List ℕ → List ℕ → Answer
-bytesAnswerOf capacity b run r states = bytesOrdered refusedAnswer ranAnswer capacity (length r / 4) b run states
+  -- "Refused with 1 to 10 .. of the batch, then 20"
+  unfoldable pub orderIn : Result B
+  orderIn = decided (refusedResult r states) (λ commands dwords. acceptedResult) capacity room b
 
-unfoldable pub bytesRecordsOf : ℕ → List ℕ → List ℕ → List ℕ → List ℕ → List ℕ
-bytesRecordsOf capacity b run r states = bytesOrdered (λ m p. r) (λ x. recorded putLe capacity (dwordsOf b) r) capacity (length r / 4) b run states
+-- a record buffer that is dwords or bytes
+abbrev pub bufferOrderOf : ℕ → List ℕ → List ℕ → Buffer → List ℕ → Result Buffer
+bufferOrderOf capacity b run r states = orderIn putIn capacity (length (r .view)) b run r states
 
-unfoldable pub bytesStatesOf : ℕ → List ℕ → List ℕ → List ℕ → List ℕ → List ℕ
-bytesStatesOf capacity b run r states = bytesOrdered (λ m p. states) (λ x. x .states) capacity (length r / 4) b run states
+-- the dword entry
+unfoldable pub orderOf : ℕ → List ℕ → List ℕ → List ℕ → List ℕ → Result (List ℕ)
+orderOf capacity b run r states = orderIn set capacity (length r) b run r states
+
+-- the byte entry: 17 of "batch, then run"; "Records there take 64 bytes each"
+unfoldable pub bytesOrderOf : ℕ → List ℕ → List ℕ → List ℕ → List ℕ → Result (List ℕ)
+bytesOrderOf capacity b run r states =
+    wholeDwords (refusedResult r states) b
+    (wholeDwords (refusedResult r states) run
+    (orderIn putLe capacity (length r / 4) (dwordsOf b) (dwordsOf run) r states))

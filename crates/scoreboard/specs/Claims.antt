@@ -1,5 +1,5 @@
--- What is claimed of every order check, beside what it is: whom it names, what it leaves, and what its numbers tell apart. Document 01, "Who
--- waits for whom".
+-- What is claimed of every order check, beside what it is: whom it names, what it leaves, and what its numbers tell apart. Document 01,
+-- "Who waits for whom".
 use mathlib.Core.Path.{_≡_}
 use mathlib.Core.Bool.{true}
 use mathlib.Core.Logic.{_⊎_}
@@ -7,14 +7,21 @@ use mathlib.Core.List.{List}
 use Prim.Native.Nat.{ℕ, _<_, _≤_}
 use lib.ListN.{length, getD, take}
 use Rattle.words.specs.Dwords.{dwordsOf}
+use Rattle.objects.specs.Objects.{Object}
+use Rattle.runs.specs.Run.{stateAt, objectOfEvent, starts, finishes, verdictOf, begun, ran}
+use Rattle.runs.specs.Waits.{Stalls, Blocks, Started}
 use Rattle.scoreboard.specs.declared.Answer.{Answer}
-use Rattle.scoreboard.specs.Objects.{Object}
-use Rattle.scoreboard.specs.Run.{stateAt, objectOfEvent, starts, finishes, verdictOf, begun, ran}
-use Rattle.scoreboard.specs.Waits.{Stalls, Blocks, Started}
-use Rattle.scoreboard.specs.Answers.{objectsIn, answerOf, recordsOf, statesOf, bytesAnswerOf, bytesRecordsOf, bytesStatesOf}
+use Rattle.scoreboard.specs.Answers.{objectsIn, Result, orderOf, bytesOrderOf}
 
--- Of a batch and a run, with the records and states lent: the answer, and what the records and states are at exit.
-module _ (capacity : ℕ) (batch run records states : List ℕ) (answer : Answer) (filled left : List ℕ) where
+-- the numbers of a batch that is turned away: "1 to 10 (or 17) of the batch"
+abbrev pub TurnedAway : ℕ → Type 0
+TurnedAway n = ((1 ≤ n) × (n ≤ 10)) ⊎ (n ≡ 17)
+
+-- Of a batch and a run, with the records and states lent: what the check gives back.
+module _ (capacity : ℕ) (batch run records states : List ℕ) (given : Result (List ℕ)) where
+  abbrev pub answer : Answer
+  answer = given .answer
+
   abbrev pub objects : List Object
   objects = objectsIn capacity batch
 
@@ -40,15 +47,18 @@ module _ (capacity : ℕ) (batch run records states : List ℕ) (answer : Answer
   Began = (answer .number ≡ 0) ⊎ (20 < answer .number)
 
   pub record Claims : Type 0 where
+    -- every answer is one of the batch's refusals, 20, or of a run that began; 25 is the last number
+    pub cases : TurnedAway (answer .number) ⊎ (answer .number ≡ 20) ⊎ Began
+    pub last : answer .number ≤ 25
     -- "Refused with 1 to 10 (or 17) of the batch, then 20 ..: nothing changes"
-    pub refused : 0 < answer .number → answer .number < 21 → (filled ≡ records) × (left ≡ states)
+    pub refused : 0 < answer .number → answer .number < 21 → (given .records ≡ records) × (given .states ≡ states)
     -- "20 (fewer state bytes than objects; position 0)"
     pub short : answer .number ≡ 20 → (length states < length objects) × (answer .place ≡ 0)
     pub room : Began → length objects ≤ length states
     -- "the first bad event stops the run": every event before the place passes
     pub passed : Began → (n : ℕ) → n < answer .place → verdictOf objects (met n) (eventAt n) .number ≡ 0
     -- "earlier effects kept"
-    pub kept : Began → left ≡ before
+    pub kept : Began → given .states ≡ before
     -- "A run taken to its end answers 0 and its event count": no refusal and no bad event has the number 0
     pub end : answer .number ≡ 0 → answer .place ≡ length run
     -- ".. stops the run with its position": the event there has the number
@@ -65,24 +75,27 @@ module _ (capacity : ℕ) (batch run records states : List ℕ) (answer : Answer
     pub stalls : answer .number ≡ 24 → Stalls objects before k (answer .object)
     -- "25 it waits (names the lowest j and the lowest delta at it)"
     pub blocks : answer .number ≡ 25 → Blocks objects before k (answer .object) (answer .delta)
-    -- whoever started waited for nobody then
-    pub started : Began → (j : ℕ) → j < length objects → (stateAt left j ≡ 0 → ⊥) → Started objects run 0 (begun (length objects) states) j
+    -- object and delta are 0 where the number names none
+    pub unnamed : answer .number < 24 → (answer .object ≡ 0) × (answer .delta ≡ 0)
+    -- whoever started neither stalled nor waited then
+    pub started : Began → (j : ℕ) → j < length objects → (stateAt (given .states) j ≡ 0 → ⊥)
+        → Started objects run 0 (begun (length objects) states) j
     -- "State bytes past the objects never change", whatever the answer is
-    pub past : (i : ℕ) → length objects ≤ i → getD left i 0 ≡ getD states i 0
+    pub past : (i : ℕ) → length objects ≤ i → getD (given .states) i 0 ≡ getD states i 0
     -- and no state byte is gained or lost
-    pub long : length left ≡ length states
+    pub long : length (given .states) ≡ length states
 
 -- the dword entry
 abbrev pub Claimed : ℕ → List ℕ → List ℕ → List ℕ → List ℕ → Type 0
-Claimed capacity batch run records states =
-    Claims capacity batch run records states (answerOf capacity batch run records states) (recordsOf capacity batch run records states) (statesOf capacity batch run records states)
+Claimed capacity batch run records states = Claims capacity batch run records states (orderOf capacity batch run records states)
 
 -- the byte entry, of the dwords of the batch and of the run
 abbrev pub BytesClaimed : ℕ → List ℕ → List ℕ → List ℕ → List ℕ → Type 0
 BytesClaimed capacity batch run records states =
-    Claims capacity (dwordsOf batch) (dwordsOf run) records states (bytesAnswerOf capacity batch run records states) (bytesRecordsOf capacity batch run records states)
-    (bytesStatesOf capacity batch run records states)
+    Claims capacity (dwordsOf batch) (dwordsOf run) records states (bytesOrderOf capacity batch run records states)
 
 -- every order check, over dwords and over bytes, whatever is lent
 abbrev pub AllClaimed : Type 0
-AllClaimed = (capacity : ℕ) (batch run records states : List ℕ) → Claimed capacity batch run records states × BytesClaimed capacity batch run records states
+AllClaimed =
+    (capacity : ℕ) (batch run records states : List ℕ)
+    → Claimed capacity batch run records states × BytesClaimed capacity batch run records states

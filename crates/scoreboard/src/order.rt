@@ -1,14 +1,14 @@
 // The order check over dwords or bytes: one core, of which each entry leaves one source and one buffer empty.
 ghost use mathlib.Core.Path.{_≡_};
-ghost use lib.ListN.{length};
-ghost use Rattle.words.specs.Dwords.{dwordsIn, buffer};
-ghost use Rattle.scoreboard.specs.Answers.{refusedAnswer, answerOf, bufferOf, recordsOf, statesOf};
+ghost use Rattle.words.specs.Dwords.{lent, lentBuffer};
+ghost use Rattle.scoreboard.specs.Answers.{refusedAnswer, ranAnswer, bufferOrderOf};
 use crate::Answer;
-use crate::events::begin;
-use crate::events::run;
-use batch::Scanned;
-use batch::decide;
-use batch::fill;
+use reading::Scanned;
+use reading::decide;
+use records::fill;
+use runs::RunEnd;
+use runs::events::begin;
+use runs::events::run;
 use words::held;
 
 pub fn refused(number: u32, place: usize) -> Answer
@@ -22,8 +22,19 @@ pub fn refused(number: u32, place: usize) -> Answer
     }
 }
 
-// The records are written only when 20 is known. As for `fill`, the contract says what each slice of the record buffer holds at exit, and what
-// dwords the buffer then has.
+// The answer of a run, taken to its end or stopped.
+fn answered(end: RunEnd) -> Answer
+    ensures { λ r. ⌜ r ≡ ranAnswer (end .verdict) (end .position) ⌝ }
+{
+    Answer {
+        number: end.verdict.number as u64,
+        place: end.position as u64,
+        object: end.verdict.object as u64,
+        delta: end.verdict.delta as u64,
+    }
+}
+
+// The records are written only when 20 is known.
 pub fn order(
     dw: &[u32],
     by: &[u8],
@@ -34,7 +45,9 @@ pub fn order(
     rb: &mut [u8],
     states: &mut [u8],
 ) -> Answer
-    ensures { λ r. ⌜ (r ≡ answerOf capacity (dwordsIn (now (dw .entry)) (now (by .entry))) (dwordsIn (now (ed .entry)) (now (eb .entry))) (dwordsIn (now (rd .entry)) (now (rb .entry))) (now (states .entry))) × (buffer (now (rd .exit)) (now (rb .exit)) ≡ bufferOf capacity (dwordsIn (now (dw .entry)) (now (by .entry))) (dwordsIn (now (ed .entry)) (now (eb .entry))) (length (dwordsIn (now (rd .entry)) (now (rb .entry)))) (buffer (now (rd .entry)) (now (rb .entry))) (now (states .entry))) × (dwordsIn (now (rd .exit)) (now (rb .exit)) ≡ recordsOf capacity (dwordsIn (now (dw .entry)) (now (by .entry))) (dwordsIn (now (ed .entry)) (now (eb .entry))) (dwordsIn (now (rd .entry)) (now (rb .entry))) (now (states .entry))) × (now (states .exit) ≡ statesOf capacity (dwordsIn (now (dw .entry)) (now (by .entry))) (dwordsIn (now (ed .entry)) (now (eb .entry))) (dwordsIn (now (rd .entry)) (now (rb .entry))) (now (states .entry))) ⌝ }
+    ensures { λ r. ⌜ record { answer = r; records = lentBuffer (rd .exit) (rb .exit); states = now (states .exit) }
+        ≡ bufferOrderOf capacity (lent (dw .entry) (by .entry)) (lent (ed .entry) (eb .entry))
+        (lentBuffer (rd .entry) (rb .entry)) (now (states .entry)) ⌝ }
 {
     match decide(dw, by, capacity, held(rd, rb)) {
         Scanned::Stopped { number, place } => refused(number, place),
@@ -48,7 +61,7 @@ pub fn order(
             }
             fill(dw, by, capacity, rd, rb);
             begin(states, objects);
-            run(rd, rb, commands, objects, ed, eb, states)
+            answered(run(rd, rb, commands, objects, ed, eb, states))
         }
     }
 }

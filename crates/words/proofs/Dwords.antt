@@ -1,13 +1,13 @@
 -- Bytes as dwords: how many, which, and what a stored dword leaves. Assumes nothing.
 use mathlib.Core.Path.{_≡_, refl, sym, ap, _∙_}
-use Prim.Native.Nat.{ℕ, zero, suc, _+_, _-_, _*_, _/_, _%_, _^_, _<_, _≤_}
+use Prim.Native.Nat.{ℕ, zero, suc, _+_, _*_, _/_, _%_, _^_, _<_, _≤_}
 use native.Mathlib.Nat.{mod-eq-of-lt, div-add-mod'}
 use native.Mathlib.Omega.{arith}
 use mathlib.Core.List.{List, [], _∷_}
 use lib.ListN.{length, getD, set, length-set}
 use lib.Seq.{getD-set-other}
 use mathlib.Core.Logic.{_≢_}
-use Rattle.words.specs.Dwords.{leAt, dwordsOf, dwordsIn, putLe, buffer, stored}
+use Rattle.words.specs.Dwords.{leAt, dwordsOf, dwordsIn, putLe, buffer, setUnless, putIn}
 
 pub length-dwords : (l : List ℕ) → length (dwordsOf l) ≡ length l / 4
 unfolding dwordsOf
@@ -46,7 +46,7 @@ unfolding dwordsIn
 in-dwords dw [] e = refl
 in-dwords dw (b ∷ by) e = absurd (omega arith)
 
-pub in-bytes : (dw by : List ℕ) → (length by ≡ 0 → ⊥) → dwordsIn dw by ≡ dwordsOf by
+in-bytes : (dw by : List ℕ) → (length by ≡ 0 → ⊥) → dwordsIn dw by ≡ dwordsOf by
 unfolding dwordsIn
 in-bytes dw [] n = absurd (n refl)
 in-bytes dw (b ∷ by) n = refl
@@ -86,21 +86,10 @@ index-dwords dw by i e h = let m = held-dwords dw by e in omega arith
 pub index-bytes : (dw by : List ℕ) (i : ℕ) → (length by ≡ 0 → ⊥) → i < length (dwordsIn dw by) → 4 * i + 3 < length by
 index-bytes dw by i n h = let m = held-bytes dw by n in omega arith
 
--- what `store_in` shows
-pub stored-dwords : (dw by : List ℕ) (k v : ℕ) → length by ≡ 0 → buffer (set dw k v) by ≡ stored dw by k v
-unfolding stored
-stored-dwords dw [] k v e = refl
-stored-dwords dw (b ∷ by) k v e = absurd (omega arith)
-
-pub stored-bytes : (dw by by′ : List ℕ) (k v : ℕ) → (length by ≡ 0 → ⊥) → by′ ≡ putLe by k v → buffer dw by′ ≡ stored dw by k v
-unfolding stored
-stored-bytes dw [] by′ k v n e = absurd (n refl)
-stored-bytes dw (b ∷ by) by′ k v n e = ap (buffer dw) e
-
 pub length-put : (l : List ℕ) (k v : ℕ) → length (putLe l k v) ≡ length l
 length-put l k v = simp length-set
 
-pub ruleset source = (held-dwords, held-bytes, word-dwords, word-bytes, index-dwords, index-bytes, stored-dwords, stored-bytes)
+pub ruleset source = (held-dwords, held-bytes, word-dwords, word-bytes, index-dwords, index-bytes)
 
 -- a stored dword, among the dwords of the bytes
 set4 : (a b c d : ℕ) (l : List ℕ) (k m v : ℕ) → m ≡ 4 + k → set (a ∷ b ∷ c ∷ d ∷ l) m v ≡ a ∷ b ∷ c ∷ d ∷ set l k v
@@ -127,7 +116,7 @@ four-bytes v =
     let s = div-add-mod' (v / 2 ^ 24) (2 ^ 8) in
     let t = div-add-mod' v (2 ^ 32) in omega arith
 
-pub dwords-put : (l : List ℕ) (k v : ℕ) → 4 * k + 4 ≤ length l → v < 2 ^ 32 → dwordsOf (putLe l k v) ≡ set (dwordsOf l) k v
+dwords-put : (l : List ℕ) (k v : ℕ) → 4 * k + 4 ≤ length l → v < 2 ^ 32 → dwordsOf (putLe l k v) ≡ set (dwordsOf l) k v
 unfolding dwordsOf
 dwords-put (a ∷ b ∷ c ∷ d ∷ l) zero v p h =
     let e = four-bytes v ∙ mod-eq-of-lt h in
@@ -140,18 +129,25 @@ dwords-put (a ∷ []) k v p h = absurd (omega arith)
 dwords-put [] k v p h = absurd (omega arith)
 
 -- the dwords of a buffer after a store
-pub in-set : (dw by : List ℕ) (k v : ℕ) → length by ≡ 0 → dwordsIn (set dw k v) by ≡ set (dwordsIn dw by) k v
-unfolding dwordsIn
-in-set dw [] k v e = refl
-in-set dw (b ∷ by) k v e = absurd (omega arith)
-
-pub in-put : (dw by by′ : List ℕ) (k v : ℕ) → (length by ≡ 0 → ⊥) → k < length (dwordsIn dw by) → v < 2 ^ 32 → by′ ≡ putLe by k v → dwordsIn dw by′ ≡ set (dwordsIn dw by) k v
+in-put : (dw by by′ : List ℕ) (k v : ℕ) → (length by ≡ 0 → ⊥) → k < length (dwordsIn dw by) → v < 2 ^ 32 → by′ ≡ putLe by k v → dwordsIn dw by′ ≡ set (dwordsIn dw by) k v
 in-put dw by by′ k v n h p e =
     let m : 4 * k + 3 < length by = index-bytes dw by k n h in
     let l : length by′ ≡ length by = ap length e ∙ length-put by k v in
     in-bytes dw by′ (λ z. n (omega arith)) ∙ ap dwordsOf e ∙ dwords-put by k v (omega arith) p ∙ ap (λ (x : List ℕ). set x k v) (sym (in-bytes dw by n))
 
-pub ruleset views = (in-set, in-put)
+-- what `store_in` shows
+pub stored-dwords : (dw by : List ℕ) (k v : ℕ) → length by ≡ 0 → buffer (set dw k v) by ≡ putIn (buffer dw by) k v
+unfolding setUnless dwordsIn
+stored-dwords dw [] k v e = refl
+stored-dwords dw (b ∷ by) k v e = absurd (omega arith)
+
+dwords-stay : (by dw : List ℕ) (k v : ℕ) → (length by ≡ 0 → ⊥) → dw ≡ setUnless by dw k v
+unfolding setUnless
+dwords-stay [] dw k v n = absurd (n refl)
+dwords-stay (b ∷ by) dw k v n = refl
+
+pub stored-bytes : (dw by by′ : List ℕ) (k v : ℕ) → (length by ≡ 0 → ⊥) → k < length (dwordsIn dw by) → v < 2 ^ 32 → by′ ≡ putLe by k v → buffer dw by′ ≡ putIn (buffer dw by) k v
+stored-bytes dw by by′ k v n h p e = λ j. record { dwords = dwords-stay by dw k v n j; bytes = e j; view = in-put dw by by′ k v n h p e j }
 
 -- a stored dword, byte by byte and dword by dword
 pub put-other : (l : List ℕ) (k v p : ℕ) → p / 4 ≢ k → getD (putLe l k v) p 0 ≡ getD l p 0

@@ -1,8 +1,8 @@
 // Dwords as the checks read and write them: lent as dwords, or as little-endian bytes.
 ghost use mathlib.Core.Path.{_≡_};
 ghost use Prim.Native.Nat.{_+_, _*_, _<_, _≤_};
-ghost use lib.ListN.{length, getD, set};
-ghost use Rattle.words.specs.Dwords.{leAt, dwordsIn, putLe, buffer, putIn};
+ghost use lib.ListN.{length, getD};
+ghost use Rattle.words.specs.Dwords.{leAt, putLe, putIn, lent, lentBuffer};
 
 pub fn wide(x: u8) -> u32
     ensures { λ r. ⌜ (r ≡ x) × (r < 256) ⌝ }
@@ -20,7 +20,7 @@ fn le(by: &[u8], k: usize) -> u32
 
 // How many dwords a source holds.
 pub fn held(dw: &[u32], by: &[u8]) -> usize
-    ensures { λ r. ⌜ r ≡ length (dwordsIn (now (dw .entry)) (now (by .entry))) ⌝ }
+    ensures { λ r. ⌜ r ≡ length (lent (dw .entry) (by .entry)) ⌝ }
 {
     if by.len() == 0 {
         return dw.len();
@@ -30,8 +30,8 @@ pub fn held(dw: &[u32], by: &[u8]) -> usize
 
 // Dword i of a source. The test is the same for every dword of a source, so that a loop makes it once.
 pub fn word(dw: &[u32], by: &[u8], i: usize) -> u32
-    requires { ⌜ i < length (dwordsIn (now dw) (now by)) ⌝ }
-    ensures { λ r. ⌜ r ≡ getD (dwordsIn (now (dw .entry)) (now (by .entry))) i 0 ⌝ }
+    requires { ⌜ i < length (lent dw by) ⌝ }
+    ensures { λ r. ⌜ r ≡ getD (lent (dw .entry) (by .entry)) i 0 ⌝ }
 {
     if by.len() == 0 {
         return dw[i];
@@ -50,10 +50,10 @@ pub fn store(by: &mut [u8], k: usize, v: u32)
     by[4 * k + 3] = ((v >> 24) % 256) as u8;
 }
 
-// Stores dword k of a lent buffer. The contract says what each slice holds at exit, and what dwords the buffer then has.
+// Stores dword k of a lent buffer.
 pub fn store_in(dw: &mut [u32], by: &mut [u8], k: usize, v: u32)
-    requires { ⌜ k < length (dwordsIn (now dw) (now by)) ⌝ }
-    ensures { λ _. ⌜ (buffer (now (dw .exit)) (now (by .exit)) ≡ putIn (buffer (now (dw .entry)) (now (by .entry))) k v) × (dwordsIn (now (dw .exit)) (now (by .exit)) ≡ set (dwordsIn (now (dw .entry)) (now (by .entry))) k v) ⌝ }
+    requires { ⌜ k < length (lent dw by) ⌝ }
+    ensures { λ _. ⌜ lentBuffer (dw .exit) (by .exit) ≡ putIn (lentBuffer (dw .entry) (by .entry)) k v ⌝ }
 {
     if by.len() == 0 {
         dw[k] = v;

@@ -1,4 +1,5 @@
-use Rattle.batch.proofs.Decisions.{fits, dwords-room, dwords-laws}
+use Rattle.reading.proofs.Decisions.{fits}
+use Rattle.batch.proofs.Entries.{dwords-room, dwords-laws}
 use borrow.Author.Needs.{needs}
 use Rattle.batch.proofs.check.Statement.{statement}
 use Rattle.batch.proofs.check.Tie as tie

@@ -1,4 +1,5 @@
-use Rattle.batch.proofs.Decisions.{fits, bytes-room, bytes-refused, bytes-kept, bytes-accepted, bytes-filled, odd-answer, odd-records}
+use Rattle.reading.proofs.Decisions.{fits}
+use Rattle.batch.proofs.Entries.{bytes-room, bytes-refused, bytes-unchanged, bytes-accepted, bytes-filled, odd-answer, odd-records}
 use borrow.Author.Needs.{needs}
 use Rattle.batch.proofs.check_bytes.Statement.{statement}
 use Rattle.batch.proofs.check_bytes.Tie as tie
@@ -41,7 +42,7 @@ returns-2 c =
     let q = c .before .before .before .before .before .before .if1 .left in
     let w = c .before .before .before .before .decide .ensures in
     let e = c .before .before .number .given .1 in
-    (bytes-refused _ _ _ _ q w _ _ _ e (c .refused2 .ensures), bytes-kept _ _ _ _ q w _ _ e)
+    (bytes-refused _ _ _ _ q w _ _ _ e (c .refused2 .ensures), bytes-unchanged _ _ _ _ q w _ _ e)
 
 same-length : tie.Need-same-length
 same-length c = search needs
@@ -51,7 +52,7 @@ returns-3 c =
     let q = c .before .before .before .before .before .before .before .before .before .before .before .before .before .if1 .left in
     let w = c .before .before .before .before .before .before .before .before .before .before .before .decide .ensures in
     let e = c .before .before .before .before .before .before .before .before .before .commands .given .1 in
-    (bytes-accepted _ _ _ _ q w _ _ _ e _ (c .accepted .ensures), bytes-filled _ _ _ _ q w _ _ _ e _ _ (c .before .before .before .before .fill .ensures .0))
+    (bytes-accepted _ _ _ _ q w _ _ _ e _ (c .accepted .ensures), bytes-filled _ _ _ _ q w _ _ _ e _ _ (c .before .before .before .before .fill .ensures))
 
 pub check-bytes-spec : {M : Type 1} → statement M
 check-bytes-spec =

@@ -5,7 +5,7 @@ use Prim.Native.Nat.{ℕ, _≤_, _-_, _+_}
 use lib.ListN.{length, drop, set, replicate, length-set}
 use lib.Seq.{drop-length}
 use mathlib.Core.List.{append-nil}
-use Rattle.gateway.proofs.Header.{clear-turn}
+use Rattle.gateway.proofs.Clearing.{clear-turn}
 use Rattle.gateway.proofs.clear.Statement.{statement}
 use Rattle.gateway.proofs.clear.Tie as tie
 

@@ -1,7 +1,7 @@
-use mathlib.Core.Path.{refl, sym, ap, _∙_}
+use mathlib.Core.Path.{refl, sym, _∙_}
 use native.Mathlib.Omega.{arith}
-use Rattle.gateway.specs.Replay.{Replay}
-use Rattle.gateway.proofs.Accepted.{set-up, running, refused-whole, replayed-whole}
+use Rattle.gateway.specs.Steps.{held}
+use Rattle.gateway.proofs.Whole.{set-up, running, refused-whole, replayed-whole}
 use Rattle.gateway.proofs.Loops.{kept-ended}
 use borrow.Author.Needs.{needs}
 use Rattle.gateway.proofs.replay.Statement.{statement}
@@ -14,8 +14,8 @@ refused-requires : tie.Need-refused-requires
 refused-requires c κs = search needs
 
 returns : tie.Need-returns
-returns c = let e = refused-whole (c .before .before .before .before .before .before .before .args .recording .now) (c .before .before .before .before .before .before .before .args .registers .now) (c .before .before .before .before .before .before .before .args .counts .now) (c .before .before .before .before .before .before .before .args .outcomes .now) (c .before .before .refusal .ensures) (c .before .if1 .taken) in
-    (c .refused .ensures ∙ ap (λ (x : Replay). x .answer) e, ap (λ (x : Replay). x .registers) e, ap (λ (x : Replay). x .counts) e, ap (λ (x : Replay). x .outcomes) e)
+returns c = let a = c .before .before .before .before .before .before .before .args in
+    refused-whole (a .recording .now) (a .registers .now) (a .counts .now) (a .outcomes .now) (c .before .before .refusal .ensures) (c .before .if1 .taken) (c .refused .ensures)
 
 clear-requires : tie.Need-clear-requires
 clear-requires c κs = search needs
@@ -45,8 +45,9 @@ same-length-3 : tie.Need-same-length-3
 same-length-3 c = search needs
 
 returns-2 : tie.Need-returns-2
-returns-2 c = let e = kept-ended _ _ (c .before .before .before .before .before .before .before .run .ensures) ∙ replayed-whole (c .before .before .before .before .before .before .before .before .before .before .before .before .before .before .before .before .before .before .before .before .before .before .before .args .recording .now) (c .before .before .before .before .before .before .before .before .before .before .before .before .before .before .before .before .before .before .before .before .before .before .before .args .registers .now) (c .before .before .before .before .before .before .before .before .before .before .before .before .before .before .before .before .before .before .before .before .before .before .before .args .counts .now) (c .before .before .before .before .before .before .before .before .before .before .before .before .before .before .before .before .before .before .before .before .before .before .before .args .outcomes .now) (c .before .before .before .before .before .before .before .before .before .before .before .before .before .before .before .before .before .before .refusal .ensures) (c .before .before .before .before .before .before .before .before .before .before .before .before .before .before .before .before .before .if1 .left) (c .before .before .before .before .before .before .before .before .before .before .before .before .setup .result) (c .before .before .before .before .before .before .before .before .before .before .before .half .result) _ _ (c .before .before .before .before .before .before .before .before .before .before .before .before .setup .ensures) (c .before .before .before .before .before .before .before .before .before .before .before .half .ensures .0) (c .before .before .before .before .before .before .before .before .before .before .before .before .before .before .before .clear .ensures) refl in
-    (c .ended .ensures ∙ ap (λ (x : Replay). x .answer) e, ap (λ (x : Replay). x .registers) e, ap (λ (x : Replay). x .counts) e, ap (λ (x : Replay). x .outcomes) e)
+returns-2 c = let a = c .before .before .before .before .before .before .before .before .before .before .before .before .before .before .before .before .before .before .before .before .before .before .before .args in
+    kept-ended _ (c .before .before .before .before .before .before .before .before .before .before .before .before .setup .result) (c .before .before .before .before .before .before .before .before .before .before .before .half .result) _ _ _ (held (c .before .before .before .before .before .before .before .run .result .gateways) (c .before .before .before .before .before .before .before .run .result .waiting) (c .before .before .before .before .before .before .before .run .result .bytes) _ _) _ (c .before .before .before .before .before .before .before .run .ensures) (c .ended .ensures)
+    ∙ replayed-whole (a .recording .now) (a .registers .now) (a .counts .now) (a .outcomes .now) (c .before .before .before .before .before .before .before .before .before .before .before .before .before .before .before .before .before .before .refusal .ensures) (c .before .before .before .before .before .before .before .before .before .before .before .before .before .before .before .before .before .if1 .left) (c .before .before .before .before .before .before .before .before .before .before .before .before .setup .result) (c .before .before .before .before .before .before .before .before .before .before .before .half .result) _ _ (c .before .before .before .before .before .before .before .before .before .before .before .before .setup .ensures) (c .before .before .before .before .before .before .before .before .before .before .before .half .ensures .0) (c .before .before .before .before .before .before .before .before .before .before .before .before .before .before .before .clear .ensures) refl
 
 pub replay-spec : {M : Type 1} → statement M
 replay-spec =

@@ -2,9 +2,10 @@ use mathlib.Core.Path.{_≡_, refl, _∙_}
 use Prim.Native.Nat.{_+_, _-_, _*_, _≤_}
 use native.Mathlib.Omega.{arith}
 use lib.ListN.{length}
-use Rattle.listing.specs.Writing.{Wrote, recordLines}
-use Rattle.listing.proofs.Pieces.{none}
-use Rattle.listing.proofs.Recorded.{lines-again, lines-done}
+use Rattle.text.specs.Writing.{Wrote}
+use Rattle.listing.specs.RecordLines.{recordLines}
+use Rattle.text.proofs.Pieces.{none}
+use Rattle.listing.proofs.Recorded.{lines-again, lines-done, kind-named}
 use Rattle.listing.proofs.lines.Statement.{statement}
 use Rattle.listing.proofs.lines.Tie as tie
 
@@ -46,7 +47,7 @@ shared-slice-read-total : tie.Need-shared-slice-read-total Inv-loop μ-loop
 shared-slice-read-total c = omega arith
 
 line-requires : tie.Need-line-requires Inv-loop μ-loop
-line-requires c κs = omega arith
+line-requires c κs = (omega arith, search kind-named)
 
 add-i : tie.Need-add-i Inv-loop μ-loop
 add-i c = omega arith

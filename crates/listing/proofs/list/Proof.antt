@@ -1,5 +1,5 @@
 use native.Mathlib.Omega.{arith}
-use Rattle.listing.proofs.Pieces.{then, known-as}
+use Rattle.text.proofs.Pieces.{then, known-as}
 use Rattle.listing.proofs.Outcomes.{text-long, text-odd, text-even, whole-text}
 use borrow.Author.Needs.{needs}
 use Rattle.listing.proofs.list.Statement.{statement}

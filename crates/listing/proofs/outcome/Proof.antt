@@ -1,6 +1,6 @@
 use native.Mathlib.Omega.{arith}
-use Rattle.batch.proofs.Decisions.{fits}
-use Rattle.listing.proofs.Outcomes.{refused-written, few-commands, records-room, accepted-written}
+use Rattle.reading.proofs.Decisions.{fits}
+use Rattle.listing.proofs.Outcomes.{refused-written, few-commands, records-room, kinds-named, accepted-written}
 use borrow.Author.Needs.{needs}
 use Rattle.listing.proofs.outcome.Statement.{statement}
 use Rattle.listing.proofs.outcome.Tie as tie
@@ -39,7 +39,11 @@ slice-aggregate-lines : tie.Need-slice-aggregate-lines
 slice-aggregate-lines c = search needs
 
 lines-requires : tie.Need-lines-requires
-lines-requires c κs = let h = few-commands _ (omega arith) _ (c .before .before .before .before .before .before .before .before .before .before .before .decide .ensures) _ _ _ (c .before .before .before .before .before .before .before .before .before .commands .given .1) in (h, omega arith, omega arith)
+lines-requires c κs =
+    let w = c .before .before .before .before .before .before .before .before .before .before .before .decide .ensures in
+    let e = c .before .before .before .before .before .before .before .before .before .commands .given .1 in
+    let h = few-commands _ (omega arith) _ w _ _ _ e in
+    (h, omega arith, omega arith, kinds-named _ (omega arith) _ w _ _ _ e _ (omega arith) _ _ (omega arith) (c .before .before .before .before .fill .ensures))
 
 accepted-requires : tie.Need-accepted-requires
 accepted-requires c κs = let h = few-commands _ (omega arith) _ (c .before .before .before .before .before .before .before .before .before .before .before .before .before .before .before .decide .ensures) _ _ _ (c .before .before .before .before .before .before .before .before .before .before .before .before .before .commands .given .1) in omega arith
@@ -58,7 +62,7 @@ returns-2 c =
     let w = c .before .before .before .before .before .before .before .before .before .before .before .before .before .before .before .before .before .before .decide .ensures in
     let e = c .before .before .before .before .before .before .before .before .before .before .before .before .before .before .before .before .commands .given .1 in
     let h = few-commands _ (omega arith) _ w _ _ _ e in
-    (accepted-written _ (omega arith) _ w _ _ _ e _ (omega arith) _ _ (omega arith) (c .before .before .before .before .before .before .before .before .before .before .before .fill .ensures .1) _ _ _ _ _ _ (omega arith) (c .before .before .before .before .before .before .lines .ensures .0) (c .before .before .accepted .ensures .0), omega arith)
+    (accepted-written _ (omega arith) _ w _ _ _ e _ (omega arith) _ _ (omega arith) (c .before .before .before .before .before .before .before .before .before .before .before .fill .ensures) _ _ _ _ _ _ (omega arith) (c .before .before .before .before .before .before .lines .ensures .0) (c .before .before .accepted .ensures .0), omega arith)
 
 pub outcome-spec : {M : Type 1} → statement M
 outcome-spec =

@@ -1,5 +1,4 @@
-use Rattle.words.specs.Dwords.{dwordsIn}
-use Rattle.scoreboard.proofs.Orders.{dwords-records}
+use Rattle.scoreboard.proofs.Orders.{dwords-order}
 use borrow.Author.Needs.{needs}
 use Rattle.scoreboard.proofs.check.Statement.{statement}
 use Rattle.scoreboard.proofs.check.Tie as tie
@@ -23,10 +22,7 @@ same-length-2 : tie.Need-same-length-2
 same-length-2 c = search needs
 
 returns : tie.Need-returns
-unfolding dwordsIn
-returns c =
-    let o = c .before .before .before .before .before .order .ensures in
-    (o .0, search dwords-records, o .3)
+returns c = dwords-order _ _ _ _ _ _ _ _ _ (search needs) (c .before .before .before .before .before .order .ensures)
 
 pub check-spec : {M : Type 1} → statement M
 check-spec =

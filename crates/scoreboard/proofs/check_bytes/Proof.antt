@@ -1,4 +1,4 @@
-use Rattle.scoreboard.proofs.Orders.{odd-batch-answer, odd-batch-records, odd-batch-states, odd-run-answer, odd-run-records, odd-run-states, bytes-answer, bytes-records, bytes-states}
+use Rattle.scoreboard.proofs.Orders.{odd-batch, odd-run, bytes-order}
 use borrow.Author.Needs.{needs}
 use Rattle.scoreboard.proofs.check_bytes.Statement.{statement}
 use Rattle.scoreboard.proofs.check_bytes.Tie as tie
@@ -8,17 +8,14 @@ refused-requires c κs = search needs
 
 returns : tie.Need-returns
 returns c =
-    let q = c .before .if1 .taken in
-    (odd-batch-answer _ _ _ _ _ q _ (c .refused .ensures), odd-batch-records _ _ _ _ _ q, odd-batch-states _ _ _ _ _ q)
+    odd-batch _ _ _ _ _ _ (c .before .if1 .taken) (c .refused .ensures)
 
 refused-requires-2 : tie.Need-refused-requires-2
 refused-requires-2 c κs = search needs
 
 returns-2 : tie.Need-returns-2
 returns-2 c =
-    let p = c .before .before .if1 .left in
-    let q = c .before .if2 .taken in
-    (odd-run-answer _ _ _ _ _ p q _ (c .refused2 .ensures), odd-run-records _ _ _ _ _ p q, odd-run-states _ _ _ _ _ p q)
+    odd-run _ _ _ _ _ (c .before .before .if1 .left) _ (c .before .if2 .taken) (c .refused2 .ensures)
 
 slice-aggregate-order : tie.Need-slice-aggregate-order
 slice-aggregate-order c = search needs
@@ -42,8 +39,7 @@ returns-3 : tie.Need-returns-3
 returns-3 c =
     let p = c .before .before .before .before .before .before .before .before .before .before .before .before .if1 .left in
     let q = c .before .before .before .before .before .before .before .before .before .before .before .if2 .left in
-    let o = c .before .before .before .before .before .order .ensures in
-    (bytes-answer _ _ _ _ _ p q _ (o .0), bytes-records _ _ _ _ _ p q _ _ (o .1), bytes-states _ _ _ _ _ p q _ (o .3))
+    bytes-order _ _ _ _ _ p q _ _ _ _ (c .before .before .before .before .before .order .ensures)
 
 pub check-bytes-spec : {M : Type 1} → statement M
 check-bytes-spec =

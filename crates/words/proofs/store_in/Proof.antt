@@ -1,5 +1,5 @@
 use native.Mathlib.Omega.{arith}
-use Rattle.words.proofs.Dwords.{source, views, index-dwords, index-bytes}
+use Rattle.words.proofs.Dwords.{source, index-dwords, index-bytes, stored-dwords, stored-bytes}
 use borrow.Author.Needs.{needs}
 use Rattle.words.proofs.store_in.Statement.{statement}
 use Rattle.words.proofs.store_in.Tie as tie
@@ -14,7 +14,7 @@ same-length : tie.Need-same-length
 same-length c = search needs
 
 returns : tie.Need-returns
-returns c = (search source, search (views, arith))
+returns c = search (stored-dwords, arith)
 
 store-requires : tie.Need-store-requires
 store-requires c κs = omega (arith, index-bytes _ _ _ (c .before .if1 .left) (c .before .before .before .before .pre))
@@ -23,7 +23,7 @@ same-length-2 : tie.Need-same-length-2
 same-length-2 c = search needs
 
 returns-2 : tie.Need-returns-2
-returns-2 c = (search source, search (views, arith))
+returns-2 c = search (stored-bytes, arith)
 
 pub store-in-spec : {M : Type 1} → statement M
 store-in-spec =

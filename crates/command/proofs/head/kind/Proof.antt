@@ -1,7 +1,7 @@
 use mathlib.Core.Path.{sym, ap}
 use Rattle.laws.proofs.BitRanges.{taken}
 use Rattle.command.specs.Kinds.{kindOf}
-use Rattle.command.proofs.Tests.{tests}
+use Rattle.laws.proofs.Tests.{tests}
 use Rattle.command.proofs.Heads.{media-kind}
 use native.Mathlib.Omega.{arith}
 use Rattle.command.proofs.head.kind.Statement.{statement}

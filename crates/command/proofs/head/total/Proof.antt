@@ -1,7 +1,7 @@
 use lib.Bits.{and-le-r}
 use Rattle.laws.proofs.BitRanges.{taken-low}
 use Rattle.command.specs.Kinds.{totalOf}
-use Rattle.command.proofs.Tests.{tests}
+use Rattle.laws.proofs.Tests.{tests}
 use native.Mathlib.Omega.{arith}
 use Rattle.command.proofs.head.total.Statement.{statement}
 use Rattle.command.proofs.head.total.Tie as tie

@@ -28,13 +28,13 @@ add-store : tie.Need-add-store
 add-store c = omega (arith, ack-fits (c .before .before .before .before .before .before .before .before .args .h) (c .before .before .before .before .before .before .before .before .args .outcome) (c .before .before .before .before .before .before .before .before .args .registers .now) (sym (c .before .before .before .before .before .before .counted-ack .ensures) ∙ not-false (c .before .before .before .before .before .before .counted-ack .result) (c .before .before .before .before .before .if1 .left)) (c .before .before .before .before .if2 .left) (c .before .before .before .if3 .left) (c .before .before .before .before .before .before .before .before .pre))
 
 store-requires : tie.Need-store-requires
-store-requires c κs = ack-fits (c .before .before .before .before .before .before .before .before .args .h) (c .before .before .before .before .before .before .before .before .args .outcome) (c .before .before .before .before .before .before .before .before .args .registers .now) (sym (c .before .before .before .before .before .before .counted-ack .ensures) ∙ not-false (c .before .before .before .before .before .before .counted-ack .result) (c .before .before .before .before .before .if1 .left)) (c .before .before .before .before .if2 .left) (c .before .before .before .if3 .left) (c .before .before .before .before .before .before .before .before .pre)
+store-requires c κs = omega (arith, ack-fits (c .before .before .before .before .before .before .before .before .args .h) (c .before .before .before .before .before .before .before .before .args .outcome) (c .before .before .before .before .before .before .before .before .args .registers .now) (sym (c .before .before .before .before .before .before .counted-ack .ensures) ∙ not-false (c .before .before .before .before .before .before .counted-ack .result) (c .before .before .before .before .before .if1 .left)) (c .before .before .before .before .if2 .left) (c .before .before .before .if3 .left) (c .before .before .before .before .before .before .before .before .pre))
 
 same-length : tie.Need-same-length
 same-length c = search needs
 
 returns-4 : tie.Need-returns-4
-returns-4 c = ack-stored (c .before .before .before .before .before .before .before .before .before .before .before .args .h) (c .before .before .before .before .before .before .before .before .before .before .before .args .outcome) (c .before .before .before .before .before .before .before .before .before .before .before .args .registers .now) (sym (c .before .before .before .before .before .before .before .before .before .counted-ack .ensures) ∙ not-false (c .before .before .before .before .before .before .before .before .before .counted-ack .result) (c .before .before .before .before .before .before .before .before .if1 .left)) (c .before .before .before .before .before .before .before .if2 .left) (c .before .before .before .before .before .before .if3 .left) (c .before .before .before .before .before .before .before .before .before .before .before .pre) _ (c .before .before .store .ensures)
+returns-4 c = ack-stored (c .before .before .before .before .before .before .before .before .before .before .before .args .h) (c .before .before .before .before .before .before .before .before .before .before .before .args .outcome) (c .before .before .before .before .before .before .before .before .before .before .before .args .registers .now) (sym (c .before .before .before .before .before .before .before .before .before .counted-ack .ensures) ∙ not-false (c .before .before .before .before .before .before .before .before .before .counted-ack .result) (c .before .before .before .before .before .before .before .before .if1 .left)) (c .before .before .before .before .before .before .before .if2 .left) (c .before .before .before .before .before .before .if3 .left) (c .before .before .before .before .before .before .before .before .before .before .before .pre) _ _ (c .before .before .store .ensures) (omega arith)
 
 pub acknowledge-spec : {M : Type 1} → statement M
 acknowledge-spec =

@@ -6,7 +6,8 @@ use mathlib.Core.List.{List}
 use Prim.Native.Nat.{ℕ, _≤_, _-_, _*_}
 use lib.Dec.{eqb}
 use lib.ListN.{length, getD}
-use Rattle.event.specs.Groups.{groupOf}
+use Rattle.event.specs.Groups.{groupOf, overMembers}
+use Rattle.event.proofs.Groups.{group-read}
 use Rattle.effects.specs.Effects.{groupNotified, oneMore}
 use Rattle.effects.proofs.CountLaws.{groupNotified-long, groupNotified-turn, groupNotified-later}
 use Rattle.effects.proofs.buffers.notify_group.Statement.{statement}
@@ -19,7 +20,7 @@ abbrev μ-loop : tie.MeasureT-loop
 μ-loop group counts₀ threads groups t₀ counts t = threads - t
 
 loop-holds : tie.Need-loop-holds Inv-loop μ-loop
-unfolding groupNotified
+unfolding overMembers
 loop-holds c = (omega arith, refl)
 
 mul-one-more-if : tie.Need-mul-one-more-if Inv-loop μ-loop
@@ -33,7 +34,7 @@ one-more-if-requires c κs = let a = c .before .before .before .before .before .
     let l = c .before .before .loop in
     let n : length (l .counts) ≡ length (a .counts .now) = ap length (l .inv .1) ∙ groupNotified-long (a .setup .groups) (a .group) (a .counts .now) (l .t) in
     let e : getD (l .counts) (2 * l .t) 0 ≡ getD (a .counts .now) (2 * l .t) 0 = ap (λ (x : List ℕ). getD x (2 * l .t) 0) (l .inv .1) ∙ groupNotified-later (a .setup .groups) (a .group) (a .counts .now) (l .t) (2 * l .t) (omega arith) in
-    (omega arith, omega (arith, c .before .before .before .before .before .pre .2 (2 * l .t)))
+    (omega arith, omega (arith, c .before .before .before .before .before .pre .1 .low (2 * l .t)))
 
 add-t : tie.Need-add-t Inv-loop μ-loop
 add-t c = omega arith
@@ -46,6 +47,7 @@ loop-again c = let a = c .before .before .before .before .before .before .before
     let l = c .before .before .before .before .before .loop in (
       omega arith,
       c .before .before .one-more-if .ensures
+          ∙ ap (λ (x : ℕ). cond (eqb x (a .group)) (oneMore (l .counts) (2 * l .t)) (l .counts)) (group-read (a .setup) (l .t) (c .before .before .before .before .before .before .before .before .pre .0 .all) (omega arith))
           ∙ ap (λ (x : List ℕ). cond (eqb (groupOf (a .setup .groups) (l .t)) (a .group)) (oneMore x (2 * l .t)) x) (l .inv .1)
           ∙ groupNotified-turn (a .setup .groups) (a .group) (a .counts .now) (l .t),
     )

@@ -4,7 +4,7 @@ use native.Mathlib.Omega.{arith}
 use lib.ListN.{set}
 use Prim.Native.Nat.{ℕ}
 use Rattle.effects.specs.Effects.{withAck}
-use Rattle.event.specs.Codes.{closed}
+use Rattle.event.specs.Gateways.{closed}
 use Rattle.event.specs.Outcomes.{decisionOf}
 use Rattle.effects.specs.Gateways.{gatewaysIn}
 use Rattle.effects.proofs.Acks.{ack-room}

@@ -17,7 +17,7 @@ returns-2 : tie.Need-returns-2
 unfolding outcomeOf
 returns-2 c = let f = sym (c .before .is-malformed .ensures) ∙ c .if1 .left in
     let p = c .before .before .pre in
-    outcome-ruled _ _ _ _ _ refl f (ap outcomeOf (left-over _ _ _ _ _ (formed-kind _ _ _ f) (p .2) (p .3) (p .0) (p .1) (p .4)))
+    outcome-ruled _ _ _ _ _ refl f (ap outcomeOf (left-over _ _ _ _ _ (formed-kind _ _ _ f) p))
 
 pub other-outcome-spec : {M : Type 1} → statement M
 other-outcome-spec = tie.close (tie.spec is-malformed-requires returns returns-2)

@@ -1,13 +1,11 @@
-use mathlib.Core.List.{List}
 use native.Mathlib.Omega.{arith}
 use native.Mathlib.Nat.{le-antisymm}
 use mathlib.Core.Path.{_≡_, refl, sym, ap, _∙_}
 use Prim.Native.Nat.{ℕ, _≤_, _-_}
-use lib.ListN.{length, set, replicate}
+use lib.ListN.{set, replicate}
 use Rattle.laws.specs.Filled.{filled}
 use Rattle.laws.proofs.Filled.{filled-turn}
-use Rattle.event.specs.declared.Gateway.{Gateway}
-use Rattle.event.specs.Codes.{closed}
+use Rattle.event.specs.Gateways.{closed}
 use Rattle.effects.specs.Gateways.{gatewayIn, gatewaysIn}
 use Rattle.effects.proofs.GatewayWords.{gateway-at}
 use Rattle.gateway.proofs.answer.gateways.Statement.{statement}

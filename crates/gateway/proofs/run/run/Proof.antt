@@ -1,22 +1,21 @@
-use mathlib.Core.Path.{refl, sym, ap, subst, _∙_}
+use mathlib.Core.Path.{ap, _∙_}
 use Prim.Native.Nat.{ℕ, _-_, _+_, _*_}
 use native.Mathlib.Omega.{arith}
 use native.Mathlib.Nat.{le-antisymm}
 use borrow.Author.Needs.{needs}
 use lib.ListN.{length}
 use Rattle.effects.specs.Gateways.{gatewaysIn}
-use Rattle.effects.proofs.GatewayWords.{none-open}
-use Rattle.gateway.specs.Replay.{World, runOf, start}
-use Rattle.gateway.specs.Steps.{Kept}
-use Rattle.gateway.proofs.Turns.{part-is, part-long}
+use Rattle.barriers.specs.Barriers.{waitsIn}
+use Rattle.barriers.proofs.Waits.{sixteen-masks}
+use Rattle.gateway.specs.Replay.{World, runOf, startOver}
+use Rattle.gateway.specs.Steps.{held}
 use Rattle.gateway.proofs.Bounds.{start-windows, met-windows, run-low}
-use Rattle.gateway.proofs.Arrivals.{none-yet, sixteen-masks, sixteen-members, masks-low}
-use Rattle.gateway.proofs.Loops.{AtEvent, step-turn}
+use Rattle.gateway.proofs.Loops.{AtEvent, at-start, step-turn, part-is, part-long}
 use Rattle.gateway.proofs.run.run.Statement.{statement}
 use Rattle.gateway.proofs.run.run.Tie as tie
 
 abbrev Inv-loop : tie.InvT-loop
-Inv-loop recording setup events registers₀ counts₀ outcomes₀ first members gateways₀ bytes₀ waiting₀ i₀ registers counts outcomes gateways bytes waiting i = AtEvent recording setup events (record { state = start; registers = registers₀; counts = counts₀; outcomes = outcomes₀ }) gateways bytes waiting registers counts outcomes i
+Inv-loop recording setup events registers₀ counts₀ outcomes₀ first members gateways₀ bytes₀ waiting₀ i₀ registers counts outcomes gateways bytes waiting i = AtEvent recording setup events (startOver registers₀ counts₀ outcomes₀) (held gateways waiting bytes registers counts) outcomes i
 
 abbrev μ-loop : tie.MeasureT-loop
 μ-loop recording setup events registers₀ counts₀ outcomes₀ first members gateways₀ bytes₀ waiting₀ i₀ registers counts outcomes gateways bytes waiting i = events - i
@@ -28,8 +27,7 @@ members-requires : tie.Need-members-requires Inv-loop μ-loop
 members-requires c κs = search needs
 
 loop-holds : tie.Need-loop-holds Inv-loop μ-loop
-unfolding runOf
-loop-holds c = record { most = omega arith; kept = record { own-gateways = none-open; own-bytes = refl; own-waiting = none-yet (c .before .before .before .before .before .before .args .setup); own-registers = refl; own-counts = refl; own-outcomes = refl }; registers-long = refl; counts-long = refl; outcomes-long = refl; all-gateways = refl; all-bytes = refl }
+loop-holds c = let a = c .before .before .before .before .before .before .args in at-start (a .recording .now) (a .setup) (a .events) (a .registers .now) (a .counts .now) (a .outcomes .now) (c .before .before .before .before .before .before .pre .grouped)
 
 mul-from : tie.Need-mul-from Inv-loop μ-loop
 mul-from c = omega arith
@@ -56,7 +54,7 @@ slice-aggregate-step-2 : tie.Need-slice-aggregate-step-2 Inv-loop μ-loop
 slice-aggregate-step-2 c = omega arith
 
 slice-aggregate-step-3 : tie.Need-slice-aggregate-step-3 Inv-loop μ-loop
-slice-aggregate-step-3 c = omega (arith, ap length (c .before .before .before .before .before .loop .inv .kept .own-waiting), sixteen-masks (c .before .before .before .before .before .before .before .before .before .before .before .before .args .setup) (runOf (c .before .before .before .before .before .before .before .before .before .before .before .before .args .recording .now) (c .before .before .before .before .before .before .before .before .before .before .before .before .args .setup) (c .before .before .before .before .before .loop .i) (record { state = start; registers = c .before .before .before .before .before .before .before .before .before .before .before .before .args .registers .now; counts = c .before .before .before .before .before .before .before .before .before .before .before .before .args .counts .now; outcomes = c .before .before .before .before .before .before .before .before .before .before .before .before .args .outcomes .now }) .state .waits))
+slice-aggregate-step-3 c = omega (arith, ap length (c .before .before .before .before .before .loop .inv .masks), sixteen-masks (c .before .before .before .before .before .before .before .before .before .before .before .before .args .setup) (waitsIn (c .before .before .before .before .before .before .before .before .before .before .before .before .args .setup) (c .before .before .before .before .before .loop .waiting)))
 
 slice-aggregate-step-4 : tie.Need-slice-aggregate-step-4 Inv-loop μ-loop
 slice-aggregate-step-4 c = omega arith
@@ -65,22 +63,18 @@ step-requires : tie.Need-step-requires Inv-loop μ-loop
 step-requires c κs = let a = c .before .before .before .before .before .before .before .before .before .before .before .before .before .before .before .args in
     let p = c .before .before .before .before .before .before .before .before .before .before .before .before .before .before .before .pre in
     let l = c .before .before .before .before .before .before .before .before .loop in
-    let w₀ : World = record { state = start; registers = a .registers .now; counts = a .counts .now; outcomes = a .outcomes .now } in
-    let e = l .inv .kept .own-waiting in
+    let w₀ : World = startOver (a .registers .now) (a .counts .now) (a .outcomes .now) in
     record {
       event = part-long (a .recording .now) (10 + a .setup .threads + 48 * l .i) (omega arith);
       four = l .inv .all-gateways;
-      windows = met-windows (a .recording .now) (a .setup) (l .i) w₀ (gatewaysIn (l .gateways)) start-windows (l .inv .kept .own-gateways);
+      windows = met-windows (a .recording .now) (a .setup) (l .i) w₀ (gatewaysIn (l .gateways)) start-windows (ap (λ (w : World). w .state .gateways) (l .inv .so-far));
       rest =
           record {
-            few = p .few;
-            all = ap length (c .before .before .before .before .before .before .before .before .before .members .ensures) ∙ sixteen-members (a .setup);
-            kept = ap length e ∙ sixteen-masks (a .setup) (runOf (a .recording .now) (a .setup) (l .i) w₀ .state .waits);
+            grouped = p .grouped;
+            masked = record { own-members = c .before .before .before .before .before .before .before .before .before .members .ensures; own-waiting = l .inv .masks };
             sixteen = l .inv .all-bytes;
-            masked = λ b. rw e (masks-low (a .setup) (p .few) (runOf (a .recording .now) (a .setup) (l .i) w₀ .state .waits) b);
             own = omega arith;
-            two = omega arith;
-            low = run-low (a .recording .now) (a .setup) w₀ (p .clear) (l .i) (l .counts) (l .inv .kept .own-counts) (omega arith);
+            room = record { two = omega arith; low = run-low (a .recording .now) (a .setup) w₀ (p .clear) (l .i) (l .counts) (ap (λ (w : World). w .counts) (l .inv .so-far)) (omega arith) };
           };
     }
 
@@ -97,8 +91,8 @@ loop-again : tie.Need-loop-again Inv-loop μ-loop
 loop-again c = let a = c .before .before .before .before .before .before .before .before .before .before .before .before .before .before .before .before .before .before .before .before .before .before .before .args in
     let p = c .before .before .before .before .before .before .before .before .before .before .before .before .before .before .before .before .before .before .before .before .before .before .before .pre in
     let l = c .before .before .before .before .before .before .before .before .before .before .before .before .before .before .before .before .loop in
-    let w₀ : World = record { state = start; registers = a .registers .now; counts = a .counts .now; outcomes = a .outcomes .now } in
-    step-turn (a .recording .now) (a .setup) (a .events) w₀ (p .few) (p .grouped) refl (l .inv) (c .before .before .before .before .before .before .before .before .before .before .before .before .before .before .before .loop-test .taken) _ (part-is (a .recording .now) (a .setup .threads) (l .i) (p .same)) (c .before .before .before .before .before .before .before .before .before .before .before .before .before .before .before .before .before .members .ensures) (c .before .before .before .before .before .before .before .step .ensures) refl (c .before .before .before .before .before .before .before .step .kept .1 .1 .1 .0) (c .before .before .before .before .before .before .before .step .kept .1 .1 .1 .1 .1 .0) (c .before .before .before .before .before .before .before .step .kept .1 .1 .1 .1 .1 .1 .0) (c .before .before .before .before .before .before .before .step .kept .1 .1 .1 .1 .1 .1 .1 .0)
+    step-turn (a .recording .now) (a .setup) (a .events) (startOver (a .registers .now) (a .counts .now) (a .outcomes .now)) _ (l .inv) (c .before .before .before .before .before .before .before .before .before .before .before .before .before .before .before .loop-test .taken)
+    (part-is (a .recording .now) (a .setup .threads) (l .i) (p .same)) (c .before .before .before .before .before .before .before .step .ensures) (c .before .before .before .before .before .before .before .step .kept .1 .1 .1 .0) (c .before .before .before .before .before .before .before .step .kept .1 .1 .1 .1 .1 .0) (c .before .before .before .before .before .before .before .step .kept .1 .1 .1 .1 .1 .1 .0) (c .before .before .before .before .before .before .before .step .kept .1 .1 .1 .1 .1 .1 .1 .0)
 
 same-length : tie.Need-same-length Inv-loop μ-loop
 same-length c = c .before .loop .inv .registers-long
@@ -111,9 +105,9 @@ same-length-3 c = c .before .loop .inv .outcomes-long
 
 returns : tie.Need-returns Inv-loop μ-loop
 returns c = let a = c .before .before .before .before .before .before .before .before .args in
-    let w₀ : World = record { state = start; registers = a .registers .now; counts = a .counts .now; outcomes = a .outcomes .now } in
+    let w₀ : World = startOver (a .registers .now) (a .counts .now) (a .outcomes .now) in
     let l = c .before .loop in
-    subst (λ (k : ℕ). Kept (a .setup) (runOf (a .recording .now) (a .setup) k w₀) (l .gateways) (l .bytes) (l .waiting) (l .registers) (l .counts) (l .outcomes)) (le-antisymm (l .inv .most) (c .loop-test .left)) (l .inv .kept)
+    record { its-world = l .inv .so-far ∙ ap (λ (k : ℕ). runOf (a .recording .now) (a .setup) k w₀) (le-antisymm (l .inv .most) (c .loop-test .left)); its-masks = l .inv .masks }
 
 pub run-spec : {M : Type 1} → statement M
 run-spec =

@@ -1,4 +1,5 @@
 use native.Mathlib.Omega.{arith}
+use Rattle.gateway.specs.Steps.{held}
 use Rattle.gateway.proofs.Steps.{forward-leaves, open-or-close-leaves, message-leaves}
 use borrow.Author.Needs.{needs}
 use Rattle.gateway.proofs.step.step.Statement.{statement}
@@ -12,7 +13,7 @@ gateway-requires c κs = search needs
 
 forward-requires : tie.Need-forward-requires
 forward-requires c κs = let p = c .before .before .before .before .before .before .before .before .before .before .before .before .before .before .pre in
-    (record { few = p .rest .few; event = p .event; own = p .rest .own; two = p .rest .two; low = p .rest .low }, (rw (c .before .before .gateway .ensures) (p .windows _), c .before .before .before .before .if1 .taken))
+    (c .before .before .before .before .if1 .taken, record { few = p .rest .grouped .few; window = rw (c .before .before .gateway .ensures) (p .windows _); event = p .event; own = p .rest .own; room = p .rest .room })
 
 same-length : tie.Need-same-length
 same-length c = search needs
@@ -25,8 +26,8 @@ same-length-3 c = search needs
 
 returns : tie.Need-returns
 returns c = let a = c .before .before .before .before .before .before .before .before .before .before .before .before .before .before .before .before .before .before .before .args in
-    let e = c .before .before .before .before .forward .ensures in
-    forward-leaves (a .setup) (a .event .now) (c .before .before .before .before .before .before .before .before .before .before .before .head .result) (c .before .before .before .before .before .before .before .before .before .before .before .head .ensures) (a .members .now) (a .gateways .now) (a .waiting .now) (a .bytes .now) (a .registers .now) (a .counts .now) (c .before .before .before .before .before .before .before .before .before .if1 .taken) (c .before .before .before .before .before .before .before .gateway .ensures) (e .0) (e .1) (e .2)
+    let k = held (a .gateways .now) (a .waiting .now) (a .bytes .now) (a .registers .now) (a .counts .now) in
+    forward-leaves (a .setup) (a .event .now) (c .before .before .before .before .before .before .before .before .before .before .before .head .result) (c .before .before .before .before .before .before .before .before .before .before .before .head .ensures) k (c .before .before .before .before .before .before .before .before .before .before .before .before .before .before .before .before .before .before .before .pre .rest .masked .own-waiting) (c .before .before .before .before .before .before .before .before .before .if1 .taken) (c .before .before .before .before .before .before .before .gateway .ensures) (c .before .before .before .before .forward .ensures)
 
 open-or-close-requires : tie.Need-open-or-close-requires
 open-or-close-requires c κs = search needs
@@ -39,8 +40,8 @@ same-length-5 c = search needs
 
 returns-2 : tie.Need-returns-2
 returns-2 c = let a = c .before .before .before .before .before .before .before .before .before .before .before .before .before .before .before .before .before .before .before .args in
-    let e = c .before .before .before .before .open-or-close .ensures in
-    open-or-close-leaves (a .setup) (a .event .now) (c .before .before .before .before .before .before .before .before .before .before .before .head .result) (c .before .before .before .before .before .before .before .before .before .before .before .head .ensures) (a .members .now) (a .gateways .now) (a .waiting .now) (a .bytes .now) (a .registers .now) (a .counts .now) (c .before .before .before .before .before .before .before .if2 .taken) (e .0) (e .1) (e .2)
+    let k = held (a .gateways .now) (a .waiting .now) (a .bytes .now) (a .registers .now) (a .counts .now) in
+    open-or-close-leaves (a .setup) (a .event .now) (c .before .before .before .before .before .before .before .before .before .before .before .head .result) (c .before .before .before .before .before .before .before .before .before .before .before .head .ensures) k (c .before .before .before .before .before .before .before .before .before .before .before .before .before .before .before .before .before .before .before .pre .rest .masked .own-waiting) (c .before .before .before .before .before .before .before .if2 .taken) (c .before .before .before .before .open-or-close .ensures)
 
 message-requires : tie.Need-message-requires
 message-requires c κs = search needs
@@ -59,8 +60,8 @@ same-length-9 c = search needs
 
 returns-3 : tie.Need-returns-3
 returns-3 c = let a = c .before .before .before .before .before .before .before .before .before .before .before .before .before .before .before .before .before .before .before .before .before .before .before .before .before .args in
-    let e = c .before .before .before .before .before .before .before .before .message .ensures in
-    message-leaves (a .setup) (a .event .now) (c .before .before .before .before .before .before .before .before .before .before .before .before .before .before .before .before .before .head .result) (c .before .before .before .before .before .before .before .before .before .before .before .before .before .before .before .before .before .head .ensures) (a .members .now) (a .gateways .now) (a .waiting .now) (a .bytes .now) (a .registers .now) (a .counts .now) (omega (arith, c .before .before .before .before .before .before .before .before .before .before .before .before .before .before .before .if1 .left, c .before .before .before .before .before .before .before .before .before .before .before .before .before .if2 .left)) (e .0) (e .1) (e .2) (e .3) (e .4)
+    let k = held (a .gateways .now) (a .waiting .now) (a .bytes .now) (a .registers .now) (a .counts .now) in
+    message-leaves (a .setup) (a .event .now) (c .before .before .before .before .before .before .before .before .before .before .before .before .before .before .before .before .before .head .result) (c .before .before .before .before .before .before .before .before .before .before .before .before .before .before .before .before .before .head .ensures) k (c .before .before .before .before .before .before .before .before .before .before .before .before .before .before .before .before .before .before .before .before .before .before .before .before .before .pre .rest .masked .own-waiting) (omega (arith, c .before .before .before .before .before .before .before .before .before .before .before .before .before .before .before .if1 .left, c .before .before .before .before .before .before .before .before .before .before .before .before .before .if2 .left)) (c .before .before .before .before .before .before .before .before .message .ensures)
 
 pub step-spec : {M : Type 1} → statement M
 step-spec =

@@ -1,5 +1,6 @@
-use Rattle.batch.proofs.Decisions.{fits-limit, fits-whole, fits-records}
-use Rattle.scoreboard.proofs.Orders.{filled-room, filled-limit, filled-objects, core-refused, core-short, core-went}
+use Rattle.reading.proofs.Decisions.{fits-limit, fits-whole, fits-records}
+use Rattle.scoreboard.proofs.Orders.{filled-known, core-refused, core-short, core-ran}
+use mathlib.Core.List.{[]}
 use borrow.Author.Needs.{needs}
 use Rattle.scoreboard.proofs.order.order.Statement.{statement}
 use Rattle.scoreboard.proofs.order.order.Tie as tie
@@ -30,7 +31,7 @@ same-length-2 c = search needs
 
 returns : tie.Need-returns
 returns c =
-    core-short _ _ _ _ _ _ _ (c .before .before .before .before .before .before .held .ensures) _ (c .before .before .before .before .before .decide .ensures) _ _ _ (c .before .before .before .commands .given .1) _ (c .before .if1 .taken) (c .refused2 .ensures)
+    core-short _ _ _ _ _ _ (c .before .before .before .before .before .before .held .ensures) _ (c .before .before .before .before .before .decide .ensures) _ _ _ (c .before .before .before .commands .given .1) _ (c .before .if1 .taken) (c .refused2 .ensures)
 
 fill-requires : tie.Need-fill-requires
 fill-requires c κs =
@@ -47,8 +48,11 @@ run-requires c κs =
     let ew = c .before .before .before .before .before .before .before .before .before .before .before .before .before .before .before .before .before .before .decide .ensures in
     let e = c .before .before .before .before .before .before .before .before .before .before .before .before .before .before .before .before .commands .given .1 in
     let l = c .before .before .before .before .before .before .before .before .before .before .before .before .before .before .before .before .before .before .before .held .ensures in
-    let f = c .before .before .before .before .before .before .before .before .before .before .before .fill .ensures .1 in
-    (filled-room _ _ _ _ _ _ _ ew e _ _ l f, filled-limit _ _ _ _ _ _ _ ew e _ _ l f, filled-objects _ _ _ _ _ _ _ ew e _ _ l f, search needs)
+    let f = c .before .before .before .before .before .before .before .before .before .before .before .fill .ensures in
+    filled-known _ _ [] _ [] _ l _ ew _ _ _ e _ _ f (search needs)
+
+answered-requires : tie.Need-answered-requires
+answered-requires c κs = search needs
 
 same-length-3 : tie.Need-same-length-3
 same-length-3 c = search needs
@@ -58,7 +62,7 @@ same-length-4 c = search needs
 
 returns-2 : tie.Need-returns-2
 returns-2 c =
-    core-refused _ _ _ _ _ _ _ (c .before .before .before .before .before .held .ensures) _ (c .before .before .before .before .decide .ensures) _ _ _ (c .before .before .number .given .1) (c .refused .ensures)
+    core-refused _ _ _ _ _ _ (c .before .before .before .before .before .held .ensures) _ (c .before .before .before .before .decide .ensures) _ _ _ (c .before .before .number .given .1) (c .refused .ensures)
 
 same-length-5 : tie.Need-same-length-5
 same-length-5 c = search needs
@@ -71,9 +75,8 @@ same-length-7 c = search needs
 
 returns-3 : tie.Need-returns-3
 returns-3 c =
-    let f = c .before .before .before .before .before .before .before .before .before .before .before .before .before .before .fill .ensures in
-    let r = c .before .before .run .ensures in
-    core-went _ _ _ _ _ _ _ (c .before .before .before .before .before .before .before .before .before .before .before .before .before .before .before .before .before .before .before .before .before .before .held .ensures) _ (c .before .before .before .before .before .before .before .before .before .before .before .before .before .before .before .before .before .before .before .before .before .decide .ensures) _ _ _ (c .before .before .before .before .before .before .before .before .before .before .before .before .before .before .before .before .before .before .before .commands .given .1) _ _ _ _ _ (c .before .before .before .before .before .before .before .before .before .before .before .before .before .before .before .before .before .if1 .left) (f .0) (f .1) (c .before .before .before .before .before .before .before .before .begin .ensures) (r .0) (r .1)
+    let f = c .before .before .before .before .before .before .before .before .before .before .before .before .before .before .before .fill .ensures in
+    core-ran _ _ _ _ _ _ (c .before .before .before .before .before .before .before .before .before .before .before .before .before .before .before .before .before .before .before .before .before .before .before .held .ensures) _ (c .before .before .before .before .before .before .before .before .before .before .before .before .before .before .before .before .before .before .before .before .before .before .decide .ensures) _ _ _ (c .before .before .before .before .before .before .before .before .before .before .before .before .before .before .before .before .before .before .before .before .commands .given .1) _ _ _ _ _ (c .before .before .before .before .before .before .before .before .before .before .before .before .before .before .before .before .before .before .if1 .left) f (c .before .before .before .before .before .before .before .before .before .begin .ensures) (c .before .before .before .run .ensures) (c .answered .ensures)
 
 pub order-spec : {M : Type 1} → statement M
 order-spec =
@@ -91,6 +94,7 @@ order-spec =
     fill-requires
     begin-requires
     run-requires
+    answered-requires
     same-length-3
     same-length-4
     returns-2

@@ -1,0 +1,102 @@
+-- Rows 6 to 9 by kind: of the one list, the rows that can hold for a kind. Assumes nothing.
+use mathlib.Core.Path.{_≡_, refl, sym, ap, _∙_}
+use native.Mathlib.Omega.{arith}
+use Prim.Native.Nat.{ℕ, _+_, _*_, _%_, _^_, _<_, _≤_}
+use native.Mathlib.Nat.{lt-of-le-of-lt, mul-le-mul}
+use mathlib.Core.Bool.{not, false}
+use mathlib.Core.List.{List, [], _∷_}
+use lib.Bits.{bitAnd, and-le-r}
+use lib.Dec.{ltb, leb, eqb, lit<}
+use borrow.Author.Tests.{ne-eqb}
+use Rattle.laws.specs.Rows.{row, firstRow}
+use Rattle.laws.specs.BitRanges.{anySet}
+use Rattle.masks.specs.MustBeZero.{marks, markedBits}
+use Rattle.command.specs.declared.State.{State}
+use Rattle.judge.specs.declared.Verdict.{Verdict}
+use Rattle.judge.specs.declared.Verdict.the-variants.{Fault, Passed}
+use Rattle.command.specs.Order.{isSet}
+use Rattle.command.specs.Fields.{urbEntries, entrySize, curbeSize, loadLength, loadAddress, descriptorIndex}
+use Rattle.judge.specs.Refusals.{mustBeZero, ownVerdict}
+
+module _ (h : List ℕ) (st : State) where
+  pub vfe-can : ownVerdict 3 h st ≡ firstRow Passed (
+      mustBeZero 3 h 1
+      ∷ mustBeZero 3 h 3
+      ∷ mustBeZero 3 h 5
+      ∷ row (Fault 8 0) (isSet (st .«media_since_flush»))
+      ∷ row (Fault 9 0) (ltb (st .capacity) (urbEntries h * entrySize h + curbeSize h))
+      ∷ [])
+  unfolding ownVerdict markedBits marks anySet
+  vfe-can = refl
+
+  pub curbe-can : ownVerdict 4 h st ≡ firstRow Passed (
+      mustBeZero 4 h 1
+      ∷ mustBeZero 4 h 2
+      ∷ row (Fault 7 2) (not (eqb (loadLength h % 32) 0))
+      ∷ row (Fault 7 3) (not (eqb (loadAddress h % 32) 0))
+      ∷ row (Fault 8 0) (not (isSet (st .«earlier_vfe»)))
+      ∷ row (Fault 9 0) (ltb (32 * st .«curbe_in_force») (loadLength h))
+      ∷ [])
+  unfolding ownVerdict markedBits marks anySet
+  curbe-can = refl
+
+  pub descriptor-can : ownVerdict 5 h st ≡ firstRow Passed (
+      mustBeZero 5 h 1
+      ∷ mustBeZero 5 h 2
+      ∷ row (Fault 7 2) (not (eqb (loadLength h % 32) 0))
+      ∷ row (Fault 7 2) (ltb (loadLength h) 32)
+      ∷ row (Fault 7 2) (ltb 2048 (loadLength h))
+      ∷ row (Fault 7 3) (not (eqb (loadAddress h % 32) 0))
+      ∷ row (Fault 8 0) (not (isSet (st .«earlier_vfe»)))
+      ∷ row (Fault 8 0) (isSet (st .«object_since_flush»))
+      ∷ [])
+  unfolding ownVerdict markedBits marks anySet
+  descriptor-can = refl
+
+  pub flush-can : ownVerdict 6 h st ≡ firstRow Passed (mustBeZero 6 h 1 ∷ [])
+  unfolding ownVerdict markedBits marks anySet
+  flush-can = refl
+
+  pub object-can : ownVerdict 7 h st ≡ firstRow Passed (
+      mustBeZero 7 h 1
+      ∷ mustBeZero 7 h 2
+      ∷ mustBeZero 7 h 3
+      ∷ mustBeZero 7 h 4
+      ∷ mustBeZero 7 h 5
+      ∷ row (Fault 8 0) (not (isSet (st .«earlier_vfe»)))
+      ∷ row (Fault 8 0) (leb (st .«count_loaded») (descriptorIndex h))
+      ∷ [])
+  unfolding ownVerdict markedBits marks anySet
+  object-can = refl
+
+-- no row from 6 on can hold for another kind
+module _ (k : ℕ) (n3 : k ≡ 3 → ⊥) (n4 : k ≡ 4 → ⊥) (n5 : k ≡ 5 → ⊥) (n6 : k ≡ 6 → ⊥) (n7 : k ≡ 7 → ⊥) where
+  unmarked : (i d : ℕ) → anySet (markedBits k i) d ≡ false
+  unfolding markedBits marks anySet
+  unmarked i d =
+      simp (
+        ne-eqb 3 k (λ e. n3 (sym e)),
+        ne-eqb 4 k (λ e. n4 (sym e)),
+        ne-eqb 5 k (λ e. n5 (sym e)),
+        ne-eqb 6 k (λ e. n6 (sym e)),
+        ne-eqb 7 k (λ e. n7 (sym e)),
+      )
+
+  pub plain : (h : List ℕ) (st : State) → Passed ≡ ownVerdict k h st
+  unfolding ownVerdict
+  plain h st = simp (unmarked, ne-eqb k 3 n3, ne-eqb k 4 n4, ne-eqb k 5 n5, ne-eqb k 7 n7)
+
+pub as-kind : (k n : ℕ) (h : List ℕ) (st : State) (v : Verdict) → k ≡ n → v ≡ ownVerdict n h st → v ≡ ownVerdict k h st
+as-kind k n h st v p e = e ∙ ap (λ (x : ℕ). ownVerdict x h st) (sym p)
+
+-- bounds of what a mask leaves
+pub mask-under : (x m n : ℕ) → m < n → bitAnd x m < n
+mask-under x m n l = lt-of-le-of-lt (and-le-r x m) l
+
+pub product-fits : (x y : ℕ) → bitAnd x 255 * bitAnd y 65535 < 2 ^ 32
+product-fits x y = lt-of-le-of-lt (mul-le-mul (and-le-r x 255) (and-le-r y 65535)) (lit< tt)
+
+pub rows-fit : (x y z : ℕ) → bitAnd x 255 * bitAnd y 65535 + bitAnd z 65535 < 2 ^ 32
+rows-fit x y z =
+    let p : bitAnd x 255 * bitAnd y 65535 ≤ 255 * 65535 = mul-le-mul (and-le-r x 255) (and-le-r y 65535) in
+    let q = and-le-r z 65535 in omega arith

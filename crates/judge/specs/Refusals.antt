@@ -1,0 +1,75 @@
+-- Why a command is turned away: rows 3 to 9 of document 01's table. "The first faulty command decides; inside it, table order. Place is the
+-- command's first dword, except as shown": here a place counts from that dword.
+use Prim.Native.Nat.{ℕ, _+_, _*_, _%_}
+use mathlib.Core.Bool.{Bool, not, _&&_, _||_}
+use mathlib.Core.List.{List, [], _∷_, _++_}
+use lib.Dec.{ltb, leb, eqb}
+use Rattle.laws.specs.Rows.{Row, row, firstRow}
+use Rattle.laws.specs.BitRanges.{anySet}
+use Rattle.command.specs.declared.State.{State}
+use Rattle.judge.specs.declared.Verdict.{Verdict}
+use Rattle.judge.specs.declared.Verdict.the-variants.{Fault, Passed}
+use Rattle.command.specs.Kinds.{noKind, lengthField, lengthAllowed, totalOf}
+use Rattle.command.specs.Order.{isSet}
+use Rattle.masks.specs.MustBeZero.{markedBits}
+use Rattle.command.specs.Fields.{dword, urbEntries, entrySize, curbeSize, loadLength, loadAddress, descriptorIndex}
+
+-- a load: kinds 4 and 5
+abbrev isLoad : ℕ → Bool
+isLoad k = eqb k 4 || eqb k 5
+
+-- Rows 3 to 5 read the first dword d, of a command of kind k, and how many dwords the slice still has.
+abbrev pub headerRows : ℕ → ℕ → ℕ → List (Row Verdict)
+headerRows k d left =
+    -- 3: "header's type and opcodes not in the table"
+    row (Fault 3 0) (eqb k noKind)
+    -- 4: "length field not allowed"
+    ∷ row (Fault 4 0) (not (lengthAllowed k (lengthField d)))
+    -- 5: "command runs past the slice"
+    ∷ row (Fault 5 0) (ltb left (totalOf k d))
+    ∷ []
+
+-- 6: "a must-be-zero bit is set (place: first such dword)"; here dword i of the own dwords h
+abbrev pub mustBeZero : ℕ → List ℕ → ℕ → Row Verdict
+mustBeZero k h i = row (Fault 6 i) (anySet (markedBits k i) (dword h i))
+
+-- Rows 6 to 9 read the own dwords h and what the commands before have set.
+abbrev pub ownRows : ℕ → List ℕ → State → List (Row Verdict)
+ownRows k h st =
+    mustBeZero k h 1
+    ∷ mustBeZero k h 2
+    ∷ mustBeZero k h 3
+    ∷ mustBeZero k h 4
+    ∷ mustBeZero k h 5
+    ∷ mustBeZero k h 6
+    ∷ mustBeZero k h 7
+    -- 7: "CURBE or descriptor length or address not a multiple of 32, or descriptor length outside 32 to 2,048 (H) (place: first such
+    -- dword)"
+    ∷ row (Fault 7 2) (isLoad k && not (eqb (loadLength h % 32) 0))
+    ∷ row (Fault 7 2) (eqb k 5 && ltb (loadLength h) 32)
+    ∷ row (Fault 7 2) (eqb k 5 && ltb 2048 (loadLength h))
+    ∷ row (Fault 7 3) (isLoad k && not (eqb (loadAddress h % 32) 0))
+    -- 8: "kinds 4, 5, 7 need an earlier VFE"
+    ∷ row (Fault 8 0) ((isLoad k || eqb k 7) && not (isSet (st .«earlier_vfe»)))
+    -- 8: "A VFE needs that no command of kind 3, 4, 5 or 7 stands since the last MI_FLUSH or the start"
+    ∷ row (Fault 8 0) (eqb k 3 && isSet (st .«media_since_flush»))
+    -- 8: "A descriptor load needs that no OBJECT stands since the last kind 1 or 6"
+    ∷ row (Fault 8 0) (eqb k 5 && isSet (st .«object_since_flush»))
+    -- 8: "An OBJECT's index is below the count last loaded"
+    ∷ row (Fault 8 0) (eqb k 7 && leb (st .«count_loaded») (descriptorIndex h))
+    -- 9: "VFE: entries x entry size + CURBE size exceeds the lent capacity in rows"
+    ∷ row (Fault 9 0) (eqb k 3 && ltb (st .capacity) (urbEntries h * entrySize h + curbeSize h))
+    -- 9: "CURBE load: length exceeds 32 x CURBE size in force"
+    ∷ row (Fault 9 0) (eqb k 4 && ltb (32 * st .«curbe_in_force») (loadLength h))
+    ∷ []
+
+-- rows 3 to 9; the first row that holds decides
+unfoldable pub judgeOf : ℕ → ℕ → List ℕ → State → Verdict
+judgeOf k left h st = firstRow Passed (headerRows k (dword h 0) left ++ ownRows k h st)
+
+-- its halves, as the code asks them
+unfoldable pub headerVerdict : ℕ → ℕ → ℕ → Verdict
+headerVerdict k d left = firstRow Passed (headerRows k d left)
+
+unfoldable pub ownVerdict : ℕ → List ℕ → State → Verdict
+ownVerdict k h st = firstRow Passed (ownRows k h st)

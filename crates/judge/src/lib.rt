@@ -1,0 +1,174 @@
+// Refusals 3 to 9 of one command: rows 3 to 5 by its first dword, rows 6 to 9 by its kind.
+ghost use mathlib.Core.Path.{_≡_};
+ghost use Rattle.command.specs.Kinds.{lengthField, lengthAllowed};
+ghost use Rattle.judge.specs.Refusals.{headerVerdict, ownVerdict};
+use command::State;
+use command::head::total;
+use masks::marked;
+
+// A refusal of document 01 at a dword counted from the command's first, or none.
+pub enum Verdict {
+    Fault { number: u32, skip: u32 },
+    Passed,
+}
+
+// Does kind k allow the length field of the first dword d?
+fn length_allowed(k: u32, d: u32) -> bool
+    ensures { λ r. ⌜ r ≡ lengthAllowed k (lengthField d) ⌝ }
+{
+    let n = d & 0xffff;
+    if k < 3 {
+        return true;
+    }
+    match k {
+        7 => 4 <= n,
+        3 => n == 6,
+        4 => n == 2,
+        5 => n == 2,
+        6 => n == 0,
+        _ => false,
+    }
+}
+
+// Rows 3 to 5 of a command of kind k with first dword d, of a slice with so many dwords left.
+pub fn header_verdict(k: u32, d: u32, left: usize) -> Verdict
+    ensures { λ r. ⌜ r ≡ headerVerdict k d left ⌝ }
+{
+    if k == 255 {
+        return Verdict::Fault { number: 3, skip: 0 };
+    }
+    if !length_allowed(k, d) {
+        return Verdict::Fault { number: 4, skip: 0 };
+    }
+    if left < total(k, d) as usize {
+        return Verdict::Fault { number: 5, skip: 0 };
+    }
+    Verdict::Passed
+}
+
+fn vfe(h: [u32; 8], st: State) -> Verdict
+    ensures { λ r. ⌜ r ≡ ownVerdict 3 h st ⌝ }
+{
+    if marked(3, 1, h[1]) {
+        return Verdict::Fault { number: 6, skip: 1 };
+    }
+    if marked(3, 3, h[3]) {
+        return Verdict::Fault { number: 6, skip: 3 };
+    }
+    if marked(3, 5, h[5]) {
+        return Verdict::Fault { number: 6, skip: 5 };
+    }
+    if st.media_since_flush != 0 {
+        return Verdict::Fault { number: 8, skip: 0 };
+    }
+    if st.capacity < ((h[2] >> 8) & 0xff) * ((h[4] >> 16) & 0xffff) + (h[4] & 0xffff) {
+        return Verdict::Fault { number: 9, skip: 0 };
+    }
+    Verdict::Passed
+}
+
+fn curbe_load(h: [u32; 8], st: State) -> Verdict
+    ensures { λ r. ⌜ r ≡ ownVerdict 4 h st ⌝ }
+{
+    if marked(4, 1, h[1]) {
+        return Verdict::Fault { number: 6, skip: 1 };
+    }
+    if marked(4, 2, h[2]) {
+        return Verdict::Fault { number: 6, skip: 2 };
+    }
+    let length = h[2] & 0x1_ffff;
+    if length % 32 != 0 {
+        return Verdict::Fault { number: 7, skip: 2 };
+    }
+    if h[3] % 32 != 0 {
+        return Verdict::Fault { number: 7, skip: 3 };
+    }
+    if st.earlier_vfe == 0 {
+        return Verdict::Fault { number: 8, skip: 0 };
+    }
+    if 32 * (st.curbe_in_force as u64) < length as u64 {
+        return Verdict::Fault { number: 9, skip: 0 };
+    }
+    Verdict::Passed
+}
+
+fn descriptor_load(h: [u32; 8], st: State) -> Verdict
+    ensures { λ r. ⌜ r ≡ ownVerdict 5 h st ⌝ }
+{
+    if marked(5, 1, h[1]) {
+        return Verdict::Fault { number: 6, skip: 1 };
+    }
+    if marked(5, 2, h[2]) {
+        return Verdict::Fault { number: 6, skip: 2 };
+    }
+    let length = h[2] & 0x1_ffff;
+    if length % 32 != 0 {
+        return Verdict::Fault { number: 7, skip: 2 };
+    }
+    if length < 32 {
+        return Verdict::Fault { number: 7, skip: 2 };
+    }
+    if 2048 < length {
+        return Verdict::Fault { number: 7, skip: 2 };
+    }
+    if h[3] % 32 != 0 {
+        return Verdict::Fault { number: 7, skip: 3 };
+    }
+    if st.earlier_vfe == 0 {
+        return Verdict::Fault { number: 8, skip: 0 };
+    }
+    if st.object_since_flush != 0 {
+        return Verdict::Fault { number: 8, skip: 0 };
+    }
+    Verdict::Passed
+}
+
+fn state_flush(h: [u32; 8], st: State) -> Verdict
+    ensures { λ r. ⌜ r ≡ ownVerdict 6 h st ⌝ }
+{
+    if marked(6, 1, h[1]) {
+        return Verdict::Fault { number: 6, skip: 1 };
+    }
+    Verdict::Passed
+}
+
+fn object(h: [u32; 8], st: State) -> Verdict
+    ensures { λ r. ⌜ r ≡ ownVerdict 7 h st ⌝ }
+{
+    if marked(7, 1, h[1]) {
+        return Verdict::Fault { number: 6, skip: 1 };
+    }
+    if marked(7, 2, h[2]) {
+        return Verdict::Fault { number: 6, skip: 2 };
+    }
+    if marked(7, 3, h[3]) {
+        return Verdict::Fault { number: 6, skip: 3 };
+    }
+    if marked(7, 4, h[4]) {
+        return Verdict::Fault { number: 6, skip: 4 };
+    }
+    if marked(7, 5, h[5]) {
+        return Verdict::Fault { number: 6, skip: 5 };
+    }
+    if st.earlier_vfe == 0 {
+        return Verdict::Fault { number: 8, skip: 0 };
+    }
+    if st.count_loaded <= h[1] & 0x3f {
+        return Verdict::Fault { number: 8, skip: 0 };
+    }
+    Verdict::Passed
+}
+
+// Rows 6 to 9 of a command of kind k with own dwords h.
+pub fn own_verdict(k: u32, h: [u32; 8], st: State) -> Verdict
+    ensures { λ r. ⌜ r ≡ ownVerdict k h st ⌝ }
+{
+    match k {
+        7 => object(h, st),
+        3 => vfe(h, st),
+        4 => curbe_load(h, st),
+        5 => descriptor_load(h, st),
+        6 => state_flush(h, st),
+        _ => Verdict::Passed,
+    }
+}

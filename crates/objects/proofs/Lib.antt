@@ -1,0 +1,3 @@
+pub mod RecordWords
+pub mod Spots
+pub mod RecordedObjects

@@ -1,0 +1,13 @@
+pub mod Verdicts
+pub mod Turns
+pub mod Walk
+pub mod Scans
+pub mod EndToEnd
+pub mod Numbers
+pub mod Decided
+pub mod Decisions
+pub mod Same
+pub mod Isolation
+pub mod AfterEnd
+pub mod Vfes
+pub mod Counts

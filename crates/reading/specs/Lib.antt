@@ -1,0 +1,7 @@
+pub mod Reading
+pub mod Decision
+pub mod Unread
+pub mod Isolation
+pub mod EndToEnd
+pub mod Vfes
+pub mod Turns

@@ -1,0 +1,4 @@
+pub mod RecordWords
+pub mod Fills
+pub mod Slots
+pub mod Buffers

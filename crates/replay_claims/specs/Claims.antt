@@ -1,0 +1,149 @@
+-- What is claimed of every replay, beside what it is: counted from the events' own bytes, the outcomes and the state that each event met,
+-- and never from the counts. Document 01: "The N0 counts of all threads add up to the accepted forwards with notify 1 plus the group size
+-- for each release"; "a nonzero outcome changes nothing else".
+use mathlib.Core.Path.{_≡_}
+use mathlib.Core.Bool.{Bool, true, false, cond, _&&_}
+use mathlib.Core.List.{List}
+use Prim.Native.Nat.{ℕ, zero, suc, _+_, _/_, _%_, _^_, _≤_, _<_}
+use lib.Dec.{eqb}
+use lib.ListN.{length, getD, set}
+use Rattle.event.specs.declared.Head.{Head}
+use Rattle.event.specs.declared.Setup.{Setup}
+use Rattle.event.specs.Head.{headOf}
+use Rattle.event.specs.Codes.{countOf}
+use Rattle.event.specs.Gateways.{gatewayAt}
+use Rattle.event.specs.Groups.{noGroup, groupOf, waitsOf, wholeOf, groupSize, ownGroup, wholeWith}
+use Rattle.event.specs.Outcomes.{isForward, isBarrier, forwardStart}
+use Rattle.event.specs.Within.{OwnBytes}
+use Rattle.recording.specs.Recording.{threadsOf, eventsOf, setupOf, eventAt, refusalOf}
+use Rattle.effects.specs.Effects.{Written, n0, n2, ackPlace, withAck}
+use Rattle.gateway.specs.Replay.{State, World, barrierOf, runOf, stepOf, begun, Replay, replayOf}
+
+-- ---- counts
+
+-- the counts at the places of the first n threads, added up: N0 by `n0`, N2 by `n2`
+unfoldable pub totalOf : (ℕ → ℕ) → ℕ → List ℕ → ℕ
+totalOf place zero cs = 0
+totalOf place (suc n) cs = totalOf place n cs + getD cs (place n) 0
+
+-- an accepted forward with notify m counts one
+unfoldable pub notification : ℕ → Head → ℕ → ℕ
+notification m h outcome = cond (eqb outcome 0 && (isForward (h .kind) && eqb (h .notify) m)) 1 0
+
+-- an accepted barrier message that makes its sender's group wait whole counts the group's size: a release
+unfoldable pub releaseSize : Setup → Head → ℕ → List Bool → ℕ
+releaseSize s h outcome waits =
+    cond (eqb outcome 0 && (isBarrier (h .kind) && wholeWith h s waits)) (groupSize s (ownGroup h s)) 0
+
+-- The first n events of a recording whose outcomes are outs, from the world w.
+module _ (rec : List ℕ) (s : Setup) (outs : List ℕ) (w : World) where
+  unfoldable pub notifications : ℕ → ℕ → ℕ
+  notifications m zero = 0
+  notifications m (suc n) = notifications m n + notification m (headOf (eventAt rec n)) (getD outs n 0)
+
+  unfoldable pub releaseSizes : ℕ → ℕ
+  releaseSizes zero = 0
+  releaseSizes (suc n) = releaseSizes n + releaseSize s (headOf (eventAt rec n)) (getD outs n 0) (runOf rec s n w .state .waits)
+
+-- After n of the events, outs being the outcomes that they end with.
+pub record Counted (rec : List ℕ) (s : Setup) (outs : List ℕ) (n : ℕ) (w : World) : Type 0 where
+  pub n0s : totalOf n0 (s .threads) (runOf rec s n w .counts) ≡ notifications rec s outs w 1 n + releaseSizes rec s outs w n
+  pub n2s : totalOf n2 (s .threads) (runOf rec s n w .counts) ≡ notifications rec s outs w 2 n
+
+-- ---- an event whose outcome is not 0
+
+-- It leaves what it met, but for its outcome byte and the acknowledgement's four bytes.
+pub record Unchanged (s : Setup) (ev : List ℕ) (i outcome : ℕ) (w : World) : Type 0 where
+  pub state : stepOf s ev i w .state ≡ w .state
+  pub counts : stepOf s ev i w .counts ≡ w .counts
+  pub outcomes : stepOf s ev i w .outcomes ≡ set (w .outcomes) i outcome
+  pub registers : stepOf s ev i w .registers ≡ withAck (headOf ev) outcome (w .registers)
+  pub elsewhere : (p : ℕ) → (ackPlace (headOf ev) ≤ p → p < ackPlace (headOf ev) + 4 → ⊥)
+      → getD (stepOf s ev i w .registers) p 0 ≡ getD (w .registers) p 0
+
+-- ---- an accepted forward
+
+-- the first of the bytes that a forward writes, by the recipient's gateway as the event met it
+abbrev pub forwardPlace : Setup → Head → State → ℕ
+forwardPlace s h w = forwardStart h s (gatewayAt (w .gateways) (h .target))
+
+-- ---- barriers
+
+-- bit t of the mask of those who wait at barrier b
+abbrev pub waitsAt : Setup → State → ℕ → ℕ → ℕ
+waitsAt s w b t = barrierOf s w b .waiting / 2 ^ t % 2
+
+-- Whoever waits at a barrier is a member of its group, and no group waits whole.
+pub record SoundBarriers (s : Setup) (w : State) : Type 0 where
+  pub threads : (t : ℕ) → waitsOf (w .waits) t ≡ true → t < s .threads
+  pub members : (t : ℕ) → waitsOf (w .waits) t ≡ true → groupOf (s .groups) t ≡ noGroup → ⊥
+  pub none-whole : (t : ℕ) → t < s .threads → (groupOf (s .groups) t ≡ noGroup → ⊥)
+      → wholeOf s (groupOf (s .groups) t) (w .waits) ≡ false
+  pub at-barrier : (b t : ℕ) → t < s .threads → waitsAt s w b t ≡ 1 → groupOf (s .groups) t ≡ b
+
+-- no member of a group waits
+abbrev pub NoneWaits : Setup → ℕ → State → Type 0
+NoneWaits s g w = (t : ℕ) → t < s .threads → groupOf (s .groups) t ≡ g → waitsOf (w .waits) t ≡ false
+
+-- ---- a recording that is not refused
+
+module _ (rec registers counts outcomes : List ℕ) where
+  -- the end, and what event n meets: event 0 what was lent, with the counts cleared, and each other what the one before left
+  abbrev pub end : Replay
+  end = replayOf rec registers counts outcomes
+
+  abbrev pub met : ℕ → World
+  met n = runOf rec (setupOf rec) n (begun registers counts outcomes)
+
+  abbrev pub headAt : ℕ → Head
+  headAt n = headOf (eventAt rec n)
+
+  abbrev pub outcomeAt : ℕ → ℕ
+  outcomeAt n = getD (end .outcomes) n 0
+
+  -- where event n, a forward, writes, and how many bytes
+  abbrev pub placeAt : ℕ → ℕ
+  placeAt n = forwardPlace (setupOf rec) (headAt n) (met n .state)
+
+  abbrev pub countAt : ℕ → ℕ
+  countAt n = countOf (headAt n .code)
+
+  -- it wrote its bytes, which are its recipient's, and then its acknowledgement
+  pub record Forwarded (n : ℕ) : Type 0 where
+    pub recipients : OwnBytes (headAt n .target) (placeAt n) (countAt n)
+    pub bytes : List ℕ
+    pub written : Written (placeAt n) (countAt n) (eventAt rec n) (met n .registers) bytes
+    pub then : met (suc n) .registers ≡ withAck (headAt n) 0 bytes
+
+  pub record Claims : Type 0 where
+    -- "The N0 counts of all threads add up to the accepted forwards with notify 1 plus the group size for each release", N2 with notify 2
+    pub n0s : totalOf n0 (threadsOf rec) (end .counts)
+        ≡ notifications rec (setupOf rec) (end .outcomes) (begun registers counts outcomes) 1 (eventsOf rec)
+        + releaseSizes rec (setupOf rec) (end .outcomes) (begun registers counts outcomes) (eventsOf rec)
+    pub n2s : totalOf n2 (threadsOf rec) (end .counts)
+        ≡ notifications rec (setupOf rec) (end .outcomes) (begun registers counts outcomes) 2 (eventsOf rec)
+    -- "a nonzero outcome changes nothing else"
+    pub refused : (n : ℕ) → n < eventsOf rec → (outcomeAt n ≡ 0 → ⊥) → Unchanged (setupOf rec) (eventAt rec n) n (outcomeAt n) (met n)
+    -- "A forward writes its 2^code bytes at 32 x base + offset of the recipient"
+    pub forward : (n : ℕ) → n < eventsOf rec → outcomeAt n ≡ 0 → headAt n .kind ≡ 2 → Forwarded n
+    -- "Outcome bytes past the events stay"
+    pub past : (k : ℕ) → eventsOf rec ≤ k → getD (end .outcomes) k 0 ≡ getD outcomes k 0
+    -- barriers, before and after every event, and after a release
+    pub barriers : (n : ℕ) → SoundBarriers (setupOf rec) (met n .state)
+    pub release : (n : ℕ) → n < eventsOf rec → outcomeAt n ≡ 0 → headAt n .kind ≡ 4
+        → wholeWith (headAt n) (setupOf rec) (met n .state .waits) ≡ true
+        → NoneWaits (setupOf rec) (ownGroup (headAt n) (setupOf rec)) (met (suc n) .state)
+
+-- ---- the claims
+
+-- every recording that no row refuses, over whatever is lent
+abbrev pub AllClaimed : Type 0
+AllClaimed =
+    (rec registers counts outcomes : List ℕ) → refusalOf rec (length registers) (length counts) (length outcomes) ≡ 0
+    → Claims rec registers counts outcomes
+
+-- The answer's number is what the rows give: 0 where they give 0, and nowhere else.
+abbrev pub Numbered : Type 0
+Numbered =
+    (rec registers counts outcomes : List ℕ)
+    → end rec registers counts outcomes .answer .number ≡ refusalOf rec (length registers) (length counts) (length outcomes)

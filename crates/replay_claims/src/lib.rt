@@ -1,0 +1,1 @@
+// No code: what holds of every replay, and the isolation of recordings.

@@ -1,0 +1,3 @@
+pub mod Run
+pub mod Waits
+pub mod Starts
