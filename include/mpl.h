@@ -228,11 +228,11 @@ enum {
 enum {
     MPL_EVENT_MALFORMED = 31,   /* malformed, below */
     MPL_EVENT_NOT_SERVED = 32,  /* kind 3 or 6; kind 0 or 1 under bypass */
-    MPL_OPEN_PAST_END = 33,     /* base + 2^size code over 128 registers */
+    MPL_OPEN_PAST_END = 33,     /* open without end of thread: base + 2^size code over 128 registers */
     MPL_NO_RECIPIENT = 34,      /* forward: recipient not a thread */
-    MPL_GATEWAY_CLOSED = 35,    /* forward: the recipient's gateway is closed */
-    MPL_KEY_DIFFERS = 36,       /* forward: key is not that of the recipient's gateway */
-    MPL_PAST_WINDOW = 37,       /* forward: offset + 2^length code bytes over the window */
+    MPL_GATEWAY_CLOSED = 35,    /* forward, but under bypass: the recipient's gateway is closed */
+    MPL_KEY_DIFFERS = 36,       /* forward, but under bypass: key is not that of the recipient's gateway */
+    MPL_PAST_WINDOW = 37,       /* forward: offset + 2^length code bytes over the window, under bypass over the thread's 4,096 */
     MPL_NO_GROUP = 38,          /* barrier: sender has no group */
     MPL_WAITS_ALREADY = 39      /* barrier: sender waits already */
 };
@@ -241,6 +241,7 @@ enum {
  * Malformed, number 31: kind over 6; sender not a thread; a flag bit that must be zero; end of thread with ack, or on a kind but open and
  * close; forward with notify 3, length code over 5 or offset over 8,191; open without end of thread with base over 127 or size code over 5;
  * ack register over 127 where the ack counts (open, close, forward, barrier); bytes 10 to 15 not zero; update of a barrier over 15.
+ * An open with end of thread closes the sender's gateway, whatever its base, size code and key are.
  */
 
 enum {

@@ -96,7 +96,7 @@ module _ (capacity : ℕ) (b r : List ℕ) where
         numbers = refused-numbers m p h l;
         refused = λ _. refl;
         recordAt = λ e. absurd (omega arith);
-        past = λ e. absurd (omega arith);
+        past = λ k p. refl;
         size = refl;
       }
 
@@ -109,7 +109,7 @@ module _ (capacity : ℕ) (b r : List ℕ) where
         numbers = accepted-numbers (length passed) d;
         refused = λ h. absurd (omega arith);
         recordAt = λ _ cs e laid i f p q. subst (λ (xs : List Command). i < length xs → getD (recorded set capacity b r) (slot i f) 0 ≡ getD (recordOf (commandNumber xs i)) f 0) (passed-as capacity b cs e laid) (λ p. word-at passed r i f noCommand n p q) p;
-        past = λ _ k p. word-past passed r k p;
+        past = λ k p. word-past passed r k p;
         size = written-length passed 0 r;
       }
 
@@ -133,7 +133,7 @@ module _ (capacity : ℕ) (b r : List ℕ) where
         numbers = numbers;
         refused = λ _. refl;
         recordAt = λ e. absurd (omega arith);
-        past = λ e. absurd (omega arith);
+        past = λ k p. refl;
         size = refl;
       }
 
@@ -146,7 +146,7 @@ module _ (capacity : ℕ) (b r : List ℕ) where
         numbers = accepted-numbers (length commands) d;
         refused = λ h. absurd (omega arith);
         recordAt = λ _ cs e laid i f p q. subst (λ (xs : List Command). i < length xs → leAt (recorded putLe capacity (dwordsOf b) r) (4 * slot i f) ≡ getD (recordOf (commandNumber xs i)) f 0 % 2 ^ 32) (passed-as capacity (dwordsOf b) cs e laid) (λ p. byte-word-at commands r i f noCommand n p q) p;
-        past = λ _ k p. byte-past commands r k p;
+        past = λ k p. byte-past commands r k p;
         size = bytes-written-length commands 0 r;
       }
 

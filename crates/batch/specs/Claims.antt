@@ -49,8 +49,8 @@ pub record Claims (capacity : ℕ) (batch records : List ℕ) (answer : Answer) 
   -- success "fills that many records": word f of the record of command i
   pub recordAt : answer .number ≡ 0 → (cs : List Command) (d : ℕ) → Laid capacity batch cs (ended d) → (i f : ℕ) → i < length cs → f < 16
       → getD filled (slot i f) 0 ≡ getD (recordOf (commandNumber cs i)) f 0
-  -- "nothing past them"
-  pub past : answer .number ≡ 0 → (k : ℕ) → 16 * answer .commands ≤ k → getD filled k 0 ≡ getD records k 0
+  -- "nothing past them", which after a refusal, with no commands, is the whole buffer
+  pub past : (k : ℕ) → 16 * answer .commands ≤ k → getD filled k 0 ≡ getD records k 0
   pub size : length filled ≡ length records
 
 -- the byte entry: "Records there take 64 bytes each", a word four of them, which hold 32 bits
@@ -61,7 +61,7 @@ pub record BytesClaims (capacity : ℕ) (batch records : List ℕ) (answer : Ans
   pub refused : 0 < answer .number → filled ≡ records
   pub recordAt : answer .number ≡ 0 → (cs : List Command) (d : ℕ) → Laid capacity (dwordsOf batch) cs (ended d) → (i f : ℕ) → i < length cs
       → f < 16 → leAt filled (4 * slot i f) ≡ getD (recordOf (commandNumber cs i)) f 0 % 2 ^ 32
-  pub past : answer .number ≡ 0 → (k : ℕ) → 64 * answer .commands ≤ k → getD filled k 0 ≡ getD records k 0
+  pub past : (k : ℕ) → 64 * answer .commands ≤ k → getD filled k 0 ≡ getD records k 0
   pub size : length filled ≡ length records
 
 -- every batch check, over dwords and over bytes, whatever is lent

@@ -1,4 +1,4 @@
--- Document 01, "Proved examples": P1 to P10, one table. Each has both sides, its whole answer and the bytes that it speaks of.
+-- Document 01, "Proved examples": P1 to P10, one table. Each has its whole answer and the bytes that it speaks of.
 use mathlib.Core.Path.{_≡_}
 use mathlib.Core.List.{List, [], _∷_, _++_}
 use Prim.Native.Nat.{ℕ}

@@ -12,7 +12,7 @@ use Rattle.laws.proofs.Choices.{two-cond, by-test, not-both}
 use Rattle.event.specs.declared.Head.{Head}
 use Rattle.event.specs.declared.Setup.{Setup}
 use Rattle.event.specs.declared.Gateway.{Gateway}
-use Rattle.event.specs.Decision.{Decision, Release}
+use Rattle.event.specs.Decision.{Decision, Wait, Release}
 use Rattle.event.specs.Head.{headOf}
 use Rattle.event.specs.Gateways.{gatewayAt}
 use Rattle.event.specs.Groups.{noGroup, groupOf, waitsOf, overMembers, allWait, wholeOf, ownGroup, wholeWith}
@@ -31,7 +31,7 @@ use Rattle.gateway.specs.Replay.{World, decisionIn, stepOf, runOf}
 use Rattle.replay_claims.specs.Claims.{SoundBarriers, NoneWaits}
 use Rattle.gateway.proofs.Bounds.{Windows, run-windows}
 use Rattle.barriers.proofs.Waits.{replicated}
-use Rattle.barriers.proofs.Masks.{bitOf, mask-bit}
+use Rattle.barriers.proofs.Masks.{bitOf, mask-bit, bit-tells}
 
 -- only who is in the group counts
 whole-same : (groups : List ℕ) (g : ℕ) (a b : List Bool) (n : ℕ) → ((t : ℕ) → t < n → groupOf groups t ≡ g → waitsOf a t ≡ waitsOf b t)
@@ -75,6 +75,14 @@ module _ (s : Setup) (waits : List Bool) where
     freed-after k o r t l e =
         let q : decisionOf h s g waits ≡ Release (ownGroup h s) = passed-as h s g waits 4 k o ∙ simp r refl in
         subst (λ (d : Decision). waitsOf (waitsAfter d s waits) t ≡ false) (sym q) (released-at (s .groups) (ownGroup h s) waits (s .threads) t l e)
+
+    -- one that does not waits
+    waits-after : h .kind ≡ 4 → outcomeOf (decisionOf h s g waits) ≡ 0 → wholeWith h s waits ≡ false
+        → waitsAfter (decisionOf h s g waits) s waits ≡ set waits (h .sender) true
+    unfolding waitsAfter
+    waits-after k o r =
+        let q : decisionOf h s g waits ≡ Wait (h .sender) = passed-as h s g waits 4 k o ∙ simp r refl in
+        ap (λ (d : Decision). waitsAfter d s waits) q
 
 -- ---- the mask of a barrier
 
@@ -128,9 +136,17 @@ module _ (rec : List ℕ) (s : Setup) (w : World) (v : Windows (w .state .gatewa
         members = run-members (λ t a. absurd (not-both _ a (none t))) n;
         none-whole = run-none-whole (λ t l f. one-missing (s .groups) (groupOf (s .groups) t) (w .state .waits) (s .threads) t l refl (none t)) n;
         at-barrier = λ b t l e. member-bit (s .groups) b (runOf rec s n w .state .waits) (s .threads) t l e;
+        shown = λ t l. bit-tells (s .groups) (groupOf (s .groups) t) (runOf rec s n w .state .waits) (s .threads) t l refl;
       }
 
-  -- and after event n, where it is a release
+  -- and after event n, where one more waits
+  pub one-more : (n : ℕ) → headOf (eventAt rec n) .kind ≡ 4 → outcomeOf (decisionIn s (eventAt rec n) (runOf rec s n w .state)) ≡ 0
+      → wholeWith (headOf (eventAt rec n)) s (runOf rec s n w .state .waits) ≡ false
+      → runOf rec s (suc n) w .state .waits ≡ set (runOf rec s n w .state .waits) (headOf (eventAt rec n) .sender) true
+  unfolding runOf stepOf
+  one-more n k o r = waits-after s (q n .state .waits) (h n) (g n) k o r
+
+  -- or where it is a release
   pub release-frees : (n : ℕ) → headOf (eventAt rec n) .kind ≡ 4 → outcomeOf (decisionIn s (eventAt rec n) (runOf rec s n w .state)) ≡ 0
       → wholeWith (headOf (eventAt rec n)) s (runOf rec s n w .state .waits) ≡ true
       → NoneWaits s (ownGroup (headOf (eventAt rec n)) s) (runOf rec s (suc n) w .state)

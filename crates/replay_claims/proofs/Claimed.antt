@@ -17,13 +17,13 @@ use Rattle.effects.specs.Effects.{forwarded, withAck}
 use Rattle.effects.proofs.Acks.{ack-long}
 use Rattle.effects.proofs.Forwarded.{forwarded-long}
 use Rattle.gateway.specs.Replay.{World, decisionIn, stepOf, runOf, begun, Replay, ended, runWhole, replayOf}
-use Rattle.replay_claims.specs.Claims.{Counted, Unchanged, end, met, headAt, outcomeAt, Claims, AllClaimed, Numbered}
+use Rattle.replay_claims.specs.Claims.{Counted, Unchanged, end, met, headAt, outcomeAt, Claims, AllClaimed, Numbered, NothingChanged}
 use Rattle.recording.proofs.Accepted.{events-fill, registers-own, counts-two, outcomes-room}
 use Rattle.barriers.proofs.Waits.{replicated}
 use Rattle.gateway.proofs.Bounds.{Windows, start-windows, run-windows}
 use Rattle.replay_claims.proofs.Counts.{outcome-at, outcome-past, counted}
 use Rattle.replay_claims.proofs.Events.{refused-unchanged, forward-written}
-use Rattle.replay_claims.proofs.Barriers.{sound, release-frees}
+use Rattle.replay_claims.proofs.Barriers.{sound, one-more, release-frees}
 
 -- ---- registers keep their length
 
@@ -102,7 +102,9 @@ module _ (rec registers counts outcomes : List ℕ) (passed : refusalOf rec (len
               then = ap (λ (x : ℕ). withAck (headAt rec registers counts outcomes n) x (forwarded (decisionIn s (eventAt rec n) (m n .state)) (eventAt rec n) (m n .registers))) z;
             };
         past = λ k h. ap (λ (r : Replay). getD (r .outcomes) k 0) at-end ∙ outcome-past rec s w N k h;
+        last = at-end;
         barriers = λ n. sound rec s w start-windows refl n;
+        waits = λ n h o k r. one-more rec s w start-windows n k (sym (outcome-is n h) ∙ o) r;
         release = λ n h o k r. release-frees rec s w start-windows n k (sym (outcome-is n h) ∙ o) r;
       }
 
@@ -114,3 +116,9 @@ unfolding replayOf
 numbered rec registers counts outcomes =
     let n = refusalOf rec (length registers) (length counts) (length outcomes) in
     by-test (eqb n 0) (λ e. simp e (sym (eqb-true n 0 e))) (λ e. simp e refl)
+
+pub nothing-changed : NothingChanged
+unfolding replayOf
+nothing-changed rec registers counts outcomes refused =
+    let n = refusalOf rec (length registers) (length counts) (length outcomes) in
+    by-test (eqb n 0) (λ e. absurd (refused (numbered rec registers counts outcomes ∙ eqb-true n 0 e))) (λ e. simp e refl)

@@ -80,6 +80,8 @@ received n k rec registers counts outcomes l =
     record {
       from = omega (arith, f .recipients .from, l .names, l .from);
       to = omega (arith, f .recipients .to, l .names, l .to);
+      first = l .from;
+      last = l .to;
       held = λ out.
           ap (λ (rs : List ℕ). getD rs k 0) (f .then)
           ∙ ack-elsewhere (headAt rec registers counts outcomes e) 0 (f .bytes) k out

@@ -17,7 +17,7 @@ use Rattle.event.specs.Outcomes.{isForward, isBarrier, forwardStart}
 use Rattle.event.specs.Within.{OwnBytes}
 use Rattle.recording.specs.Recording.{threadsOf, eventsOf, setupOf, eventAt, refusalOf}
 use Rattle.effects.specs.Effects.{Written, n0, n2, ackPlace, withAck}
-use Rattle.gateway.specs.Replay.{State, World, barrierOf, runOf, stepOf, begun, Replay, replayOf}
+use Rattle.gateway.specs.Replay.{State, World, barrierOf, runOf, stepOf, begun, Replay, ended, refusedAnswer, replayOf}
 
 -- ---- counts
 
@@ -79,7 +79,9 @@ pub record SoundBarriers (s : Setup) (w : State) : Type 0 where
   pub members : (t : ℕ) → waitsOf (w .waits) t ≡ true → groupOf (s .groups) t ≡ noGroup → ⊥
   pub none-whole : (t : ℕ) → t < s .threads → (groupOf (s .groups) t ≡ noGroup → ⊥)
       → wholeOf s (groupOf (s .groups) t) (w .waits) ≡ false
+  -- a barrier shows who waits at it: members of its group, and each of those who wait
   pub at-barrier : (b t : ℕ) → t < s .threads → waitsAt s w b t ≡ 1 → groupOf (s .groups) t ≡ b
+  pub shown : (t : ℕ) → t < s .threads → eqb (waitsAt s w (groupOf (s .groups) t) t) 1 ≡ waitsOf (w .waits) t
 
 -- no member of a group waits
 abbrev pub NoneWaits : Setup → ℕ → State → Type 0
@@ -128,8 +130,13 @@ module _ (rec registers counts outcomes : List ℕ) where
     pub forward : (n : ℕ) → n < eventsOf rec → outcomeAt n ≡ 0 → headAt n .kind ≡ 2 → Forwarded n
     -- "Outcome bytes past the events stay"
     pub past : (k : ℕ) → eventsOf rec ≤ k → getD (end .outcomes) k 0 ≡ getD outcomes k 0
-    -- barriers, before and after every event, and after a release
+    -- "The answer holds the end gateways and barriers", and the buffers are as the last event left them
+    pub last : end ≡ ended (setupOf rec) (met (eventsOf rec))
+    -- barriers, before and after every event, after one more has come, and after a release
     pub barriers : (n : ℕ) → SoundBarriers (setupOf rec) (met n .state)
+    pub waits : (n : ℕ) → n < eventsOf rec → outcomeAt n ≡ 0 → headAt n .kind ≡ 4
+        → wholeWith (headAt n) (setupOf rec) (met n .state .waits) ≡ false
+        → met (suc n) .state .waits ≡ set (met n .state .waits) (headAt n .sender) true
     pub release : (n : ℕ) → n < eventsOf rec → outcomeAt n ≡ 0 → headAt n .kind ≡ 4
         → wholeWith (headAt n) (setupOf rec) (met n .state .waits) ≡ true
         → NoneWaits (setupOf rec) (ownGroup (headAt n) (setupOf rec)) (met (suc n) .state)
@@ -147,3 +154,15 @@ abbrev pub Numbered : Type 0
 Numbered =
     (rec registers counts outcomes : List ℕ)
     → end rec registers counts outcomes .answer .number ≡ refusalOf rec (length registers) (length counts) (length outcomes)
+
+-- "Whole recording refused .. nothing lent changed": the answer has the number, closed gateways and empty barriers
+abbrev pub NothingChanged : Type 0
+NothingChanged =
+    (rec registers counts outcomes : List ℕ) → (end rec registers counts outcomes .answer .number ≡ 0 → ⊥)
+    → end rec registers counts outcomes
+    ≡ record {
+      answer = refusedAnswer (end rec registers counts outcomes .answer .number);
+      registers = registers;
+      counts = counts;
+      outcomes = outcomes;
+    }

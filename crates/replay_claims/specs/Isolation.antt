@@ -64,11 +64,13 @@ pub record Isolated (n : ℕ) (rec rec′ registers registers′ counts outcomes
 
 -- ---- guards: the words above are no narrower, and no wider, than the paper's
 
--- a byte on which a forward landed: it is n's own, and right after that event it holds the event's data byte, unless it is one of the
--- acknowledgement's four
+-- what a byte received on which a forward landed: it is one of the 2^code that the event writes, and right after that event it holds the
+-- event's data byte, but for the acknowledgement's four bytes
 pub record Received (n : ℕ) (rec registers counts outcomes : List ℕ) (k event : ℕ) : Type 0 where
   pub from : 4096 * n ≤ k
   pub to : k ≤ 4096 * n + 4095
+  pub first : placeAt rec registers counts outcomes event ≤ k
+  pub last : k < placeAt rec registers counts outcomes event + 2 ^ headAt rec registers counts outcomes event .code
   pub held : (ackPlace (headAt rec registers counts outcomes event) ≤ k → k < ackPlace (headAt rec registers counts outcomes event) + 4 → ⊥)
       → getD (met rec registers counts outcomes (suc event) .registers) k 0
       ≡ getD (eventAt rec event) (16 + (k - placeAt rec registers counts outcomes event)) 0

@@ -10,6 +10,7 @@ use lib.ListN.{length, getD, take, set}
 use Rattle.laws.proofs.Choices.{by-cond, by-test}
 use Rattle.words.specs.Dwords.{dwordsOf, putLe}
 use Rattle.command.specs.Order.{Command}
+use Rattle.records.specs.Records.{recorded}
 use Rattle.reading.specs.Vfes.{commandNumber}
 use Rattle.reading.specs.Reading.{readingOf}
 use Rattle.objects.specs.Objects.{Delta, Object, objectOf, objectsOf, objectAt}
@@ -39,9 +40,9 @@ objects-eight all (c ∷ cs) =
     by-cond Eight (eqb (c .kind) 7) _ (objectsOf all cs)
     (λ _. eight-cons (objectOf (c .head) (commandNumber all (c .vfe) .head)) (objectsOf all cs) (object-eight _ _ _ _ _ _ _ _) (objects-eight all cs)) (λ _. objects-eight all cs)
 
-module _ (capacity : ℕ) (batch run records states : List ℕ) where
+module _ (capacity : ℕ) (batch run records states filled : List ℕ) where
   abbrev Of : Result (List ℕ) → Type 0
-  Of g = Claims capacity batch run records states g
+  Of g = Claims capacity batch run records states filled g
 
   -- a refusal
   claims-refused : (m p : ℕ) → 0 < m → m < 21 → TurnedAway m ⊎ (m ≡ 20) → (m ≡ 20 → (length states < length (objectsIn capacity batch)) × (p ≡ 0))
@@ -53,6 +54,7 @@ module _ (capacity : ℕ) (batch run records states : List ℕ) where
         refused = λ _ _. (refl, refl);
         short = few;
         room = λ g. absurd (no g);
+        recordsFilled = λ g. absurd (no g);
         passed = λ g n q. absurd (no g);
         kept = λ g. absurd (no g);
         end = λ z. absurd (omega arith);
@@ -69,11 +71,11 @@ module _ (capacity : ℕ) (batch run records states : List ℕ) where
         long = refl;
       }
     where
-      no : Began capacity batch run records states (refusedResult records states m p) → ⊥
+      no : Began capacity batch run records states filled (refusedResult records states m p) → ⊥
       no (inl z) = omega arith
       no (inr z) = omega arith
 
-      either : TurnedAway m ⊎ (m ≡ 20) → TurnedAway m ⊎ (m ≡ 20) ⊎ Began capacity batch run records states (refusedResult records states m p)
+      either : TurnedAway m ⊎ (m ≡ 20) → TurnedAway m ⊎ (m ≡ 20) ⊎ Began capacity batch run records states filled (refusedResult records states m p)
       either (inl t) = inl t
       either (inr e) = inr (inl e)
 
@@ -85,7 +87,7 @@ module _ (capacity : ℕ) (batch run records states : List ℕ) where
   claims-short q = claims-refused 20 0 (omega arith) (omega arith) (inr refl) (λ _. (q, refl))
 
   -- a run
-  module _ (filled : List ℕ) (room : length (objectsIn capacity batch) ≤ length states) where
+  module _ (room : length (objectsIn capacity batch) ≤ length states) where
     abbrev objects : List Object
     objects = objectsIn capacity batch
 
@@ -147,6 +149,7 @@ module _ (capacity : ℕ) (batch run records states : List ℕ) where
           refused = λ l h. absurd (omega (arith, within l .0));
           short = λ z. absurd (omega (arith, within (omega arith) .0));
           room = λ g. room;
+          recordsFilled = λ _. refl;
           passed = λ g n q. s .passed n (omega (arith, at-place));
           kept = λ g. s .kept ∙ ap met at-place;
           end = λ z. sym at-place ∙ s .end z;
@@ -168,16 +171,18 @@ module _ (capacity : ℕ) (batch run records states : List ℕ) where
   pub claimed : Claimed capacity batch run records states
   unfolding orderOf
   claimed =
-      by-order set capacity (length records) batch run records states (Of capacity batch run records states) (claims-batch capacity batch run records states)
-      (claims-short capacity batch run records states) (claims-ran capacity batch run records states _)
+      let f = recorded set capacity batch records in
+      by-order set capacity (length records) batch run records states (Of capacity batch run records states f) (claims-batch capacity batch run records states f)
+      (claims-short capacity batch run records states f) (claims-ran capacity batch run records states f)
 
   -- LAW: the byte entry
   pub bytes-claimed : BytesClaimed capacity batch run records states
   bytes-claimed =
       let b = dwordsOf batch in
       let e = dwordsOf run in
-      by-bytes-order capacity batch run records states (Of capacity b e records states) (claims-batch capacity b e records states)
-      (claims-short capacity b e records states) (claims-ran capacity b e records states _)
+      let f = recorded putLe capacity b records in
+      by-bytes-order capacity batch run records states (Of capacity b e records states f) (claims-batch capacity b e records states f)
+      (claims-short capacity b e records states f) (claims-ran capacity b e records states f)
 
 pub all-claimed : AllClaimed
 all-claimed capacity batch run records states = (claimed capacity batch run records states, bytes-claimed capacity batch run records states)

@@ -5,8 +5,9 @@ use mathlib.Core.Bool.{true}
 use mathlib.Core.Logic.{_⊎_}
 use mathlib.Core.List.{List}
 use Prim.Native.Nat.{ℕ, _<_, _≤_}
-use lib.ListN.{length, getD, take}
-use Rattle.words.specs.Dwords.{dwordsOf}
+use lib.ListN.{length, getD, take, set}
+use Rattle.words.specs.Dwords.{dwordsOf, putLe}
+use Rattle.records.specs.Records.{recorded}
 use Rattle.objects.specs.Objects.{Object}
 use Rattle.runs.specs.Run.{stateAt, objectOfEvent, starts, finishes, verdictOf, begun, ran}
 use Rattle.runs.specs.Waits.{Stalls, Blocks, Started}
@@ -17,8 +18,9 @@ use Rattle.scoreboard.specs.Answers.{objectsIn, Result, orderOf, bytesOr
 abbrev pub TurnedAway : ℕ → Type 0
 TurnedAway n = ((1 ≤ n) × (n ≤ 10)) ⊎ (n ≡ 17)
 
--- Of a batch and a run, with the records and states lent: what the check gives back.
-module _ (capacity : ℕ) (batch run records states : List ℕ) (given : Result (List ℕ)) where
+-- Of a batch and a run, with the records and states lent: what the check gives back. `filled` is the record buffer with the batch's
+-- records in it.
+module _ (capacity : ℕ) (batch run records states filled : List ℕ) (given : Result (List ℕ)) where
   abbrev pub answer : Answer
   answer = given .answer
 
@@ -55,6 +57,8 @@ module _ (capacity : ℕ) (batch run records states : List ℕ) (given : Result 
     -- "20 (fewer state bytes than objects; position 0)"
     pub short : answer .number ≡ 20 → (length states < length objects) × (answer .place ≡ 0)
     pub room : Began → length objects ≤ length states
+    -- "Else the records are filled"
+    pub recordsFilled : Began → given .records ≡ filled
     -- "the first bad event stops the run": every event before the place passes
     pub passed : Began → (n : ℕ) → n < answer .place → verdictOf objects (met n) (eventAt n) .number ≡ 0
     -- "earlier effects kept"
@@ -87,12 +91,14 @@ module _ (capacity : ℕ) (batch run records states : List ℕ) (given : Result 
 
 -- the dword entry
 abbrev pub Claimed : ℕ → List ℕ → List ℕ → List ℕ → List ℕ → Type 0
-Claimed capacity batch run records states = Claims capacity batch run records states (orderOf capacity batch run records states)
+Claimed capacity batch run records states =
+    Claims capacity batch run records states (recorded set capacity batch records) (orderOf capacity batch run records states)
 
 -- the byte entry, of the dwords of the batch and of the run
 abbrev pub BytesClaimed : ℕ → List ℕ → List ℕ → List ℕ → List ℕ → Type 0
 BytesClaimed capacity batch run records states =
-    Claims capacity (dwordsOf batch) (dwordsOf run) records states (bytesOrderOf capacity batch run records states)
+    Claims capacity (dwordsOf batch) (dwordsOf run) records states (recorded putLe capacity (dwordsOf batch) records)
+    (bytesOrderOf capacity batch run records states)
 
 -- every order check, over dwords and over bytes, whatever is lent
 abbrev pub AllClaimed : Type 0
