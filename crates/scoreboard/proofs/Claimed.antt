@@ -49,9 +49,9 @@ module _ (capacity : ℕ) (batch run records states filled : List ℕ) where
       → Of (refusedResult records states m p)
   claims-refused m p l h which few =
       record {
-        cases = either which;
+        cases = inl which;
         last = omega arith;
-        refused = λ _ _. (refl, refl);
+        refused = λ _. (refl, refl);
         short = few;
         room = λ g. absurd (no g);
         recordsFilled = λ g. absurd (no g);
@@ -74,10 +74,6 @@ module _ (capacity : ℕ) (batch run records states filled : List ℕ) where
       no : Began capacity batch run records states filled (refusedResult records states m p) → ⊥
       no (inl z) = omega arith
       no (inr z) = omega arith
-
-      either : TurnedAway m ⊎ (m ≡ 20) → TurnedAway m ⊎ (m ≡ 20) ⊎ Began capacity batch run records states filled (refusedResult records states m p)
-      either (inl t) = inl t
-      either (inr e) = inr (inl e)
 
   claims-batch : (m p : ℕ) → TurnedAway m → Of (refusedResult records states m p)
   claims-batch m p (inl t) = let l = t .0 in let h = t .1 in claims-refused m p (omega arith) (omega arith) (inl (inl t)) (λ z. absurd (omega arith))
@@ -141,12 +137,18 @@ module _ (capacity : ℕ) (batch run records states filled : List ℕ) where
         above zero h = absurd (h refl)
         above (suc n) h = omega arith
 
+    -- no number of a run is a refusal's
+    no-refusal : TurnedAway (r .verdict .number) ⊎ (r .verdict .number ≡ 20) → ⊥
+    no-refusal (inl (inl t)) = let l = t .0 in let h = t .1 in omega (arith, within (omega arith) .0)
+    no-refusal (inl (inr e)) = omega (arith, within (omega arith) .0)
+    no-refusal (inr e) = omega (arith, within (omega arith) .0)
+
     claims-ran : Of (record { answer = ranAnswer (r .verdict) (r .position); records = filled; states = r .states })
     claims-ran =
         record {
-          cases = by-number (λ z. inr (inr (inl z))) (λ l. inr (inr (inr (within l .0))));
+          cases = by-number (λ z. inr (inl z)) (λ l. inr (inr (within l .0)));
           last = by-number (λ z. omega arith) (λ l. omega (arith, within l .1));
-          refused = λ l h. absurd (omega (arith, within l .0));
+          refused = λ x. absurd (no-refusal x);
           short = λ z. absurd (omega (arith, within (omega arith) .0));
           room = λ g. room;
           recordsFilled = λ _. refl;

@@ -44,16 +44,24 @@ module _ (capacity : ℕ) (batch run records states filled : List ℕ) (given : 
   abbrev pub before : List ℕ
   before = met (answer .place)
 
-  -- neither a refusal of the batch nor 20
+  -- Three sorts of answer, each named once: the claims below speak of them, and `cases` says that there is no fourth. A refusal:
+  abbrev pub Refused : Type 0
+  Refused = TurnedAway (answer .number) ⊎ (answer .number ≡ 20)
+
+  -- a run that a bad event stopped
+  abbrev pub Stopped : Type 0
+  Stopped = 20 < answer .number
+
+  -- a run that began: taken to its end, or stopped
   abbrev pub Began : Type 0
-  Began = (answer .number ≡ 0) ⊎ (20 < answer .number)
+  Began = (answer .number ≡ 0) ⊎ Stopped
 
   pub record Claims : Type 0 where
-    -- every answer is one of the batch's refusals, 20, or of a run that began; 25 is the last number
-    pub cases : TurnedAway (answer .number) ⊎ (answer .number ≡ 20) ⊎ Began
+    -- 25 is the last number
+    pub cases : Refused ⊎ Began
     pub last : answer .number ≤ 25
     -- "Refused with 1 to 10 (or 17) of the batch, then 20 ..: nothing changes"
-    pub refused : 0 < answer .number → answer .number < 21 → (given .records ≡ records) × (given .states ≡ states)
+    pub refused : Refused → (given .records ≡ records) × (given .states ≡ states)
     -- "20 (fewer state bytes than objects; position 0)"
     pub short : answer .number ≡ 20 → (length states < length objects) × (answer .place ≡ 0)
     pub room : Began → length objects ≤ length states
@@ -66,7 +74,7 @@ module _ (capacity : ℕ) (batch run records states filled : List ℕ) (given : 
     -- "A run taken to its end answers 0 and its event count": no refusal and no bad event has the number 0
     pub end : answer .number ≡ 0 → answer .place ≡ length run
     -- ".. stops the run with its position": the event there has the number
-    pub bad : 20 < answer .number → (answer .place < length run) × (verdictOf objects before event .number ≡ answer .number)
+    pub bad : Stopped → (answer .place < length run) × (verdictOf objects before event .number ≡ answer .number)
     -- "21 no such object"
     pub unknown : answer .number ≡ 21 → length objects ≤ k
     -- "22 start of one not waiting"
