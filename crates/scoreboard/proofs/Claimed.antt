@@ -1,5 +1,6 @@
 -- Every claim of specs/Claims.antt, of every batch, run, record buffer and state bytes. Assumes nothing.
 use mathlib.Core.Path.{_≡_, refl, sym, ap, subst, subst⁻¹, _∙_}
+use mathlib.Core.Bool.{Bool, true, false}
 use mathlib.Core.Logic.{_⊎_, inl, inr}
 use mathlib.Core.List.{List, [], _∷_, List·Memᴰ, List·Memᴰ·not-nil}
 use Prim.Native.Nat.{ℕ, zero, suc, _/_, _<_, _≤_}
@@ -7,7 +8,7 @@ use native.Mathlib.Omega.{arith}
 use lib.Dec.{eqb}
 use borrow.Author.Tests.{eqb-true, eqb-false}
 use lib.ListN.{length, getD, take, set}
-use Rattle.laws.proofs.Choices.{by-cond, by-test}
+use Rattle.laws.proofs.Choices.{by-cond, by-test, not-both}
 use Rattle.words.specs.Dwords.{dwordsOf, putLe}
 use Rattle.command.specs.Order.{Command}
 use Rattle.records.specs.Records.{recorded}
@@ -41,16 +42,18 @@ objects-eight all (c ∷ cs) =
     (λ _. eight-cons (objectOf (c .head) (commandNumber all (c .vfe) .head)) (objectsOf all cs) (object-eight _ _ _ _ _ _ _ _) (objects-eight all cs)) (λ _. objects-eight all cs)
 
 module _ (capacity : ℕ) (batch run records states filled : List ℕ) where
-  abbrev Of : Result (List ℕ) → Type 0
-  Of g = Claims capacity batch run records states filled g
+  abbrev Of : Bool → Result (List ℕ) → Type 0
+  Of taken g = Claims capacity batch run records states filled taken g
 
   -- a refusal
-  claims-refused : (m p : ℕ) → 0 < m → m < 21 → TurnedAway m ⊎ (m ≡ 20) → (m ≡ 20 → (length states < length (objectsIn capacity batch)) × (p ≡ 0))
-      → Of (refusedResult records states m p)
-  claims-refused m p l h which few =
+  claims-refused : (taken : Bool) (m p : ℕ) → 0 < m → m < 21 → (taken ≡ false → TurnedAway m) → (taken ≡ true → m ≡ 20) → TurnedAway m ⊎ (m ≡ 20) → (m ≡ 20 → (length states < length (objectsIn capacity batch)) × (p ≡ 0))
+      → Of taken (refusedResult records states m p)
+  claims-refused taken m p l h away on which few =
       record {
         cases = inl which;
         last = omega arith;
+        turnedAway = away;
+        goesOn = λ e. inl (on e);
         refused = λ _. (refl, refl);
         short = few;
         room = λ g. absurd (no g);
@@ -71,16 +74,16 @@ module _ (capacity : ℕ) (batch run records states filled : List ℕ) where
         long = refl;
       }
     where
-      no : Began capacity batch run records states filled (refusedResult records states m p) → ⊥
+      no : Began capacity batch run records states filled taken (refusedResult records states m p) → ⊥
       no (inl z) = omega arith
       no (inr z) = omega arith
 
-  claims-batch : (m p : ℕ) → TurnedAway m → Of (refusedResult records states m p)
-  claims-batch m p (inl t) = let l = t .0 in let h = t .1 in claims-refused m p (omega arith) (omega arith) (inl (inl t)) (λ z. absurd (omega arith))
-  claims-batch m p (inr e) = claims-refused m p (omega arith) (omega arith) (inl (inr e)) (λ z. absurd (omega arith))
+  claims-batch : (m p : ℕ) → TurnedAway m → Of false (refusedResult records states m p)
+  claims-batch m p (inl t) = let l = t .0 in let h = t .1 in claims-refused false m p (omega arith) (omega arith) (λ _. inl t) (λ e. absurd (not-both false e refl)) (inl (inl t)) (λ z. absurd (omega arith))
+  claims-batch m p (inr e) = claims-refused false m p (omega arith) (omega arith) (λ _. inr e) (λ x. absurd (not-both false x refl)) (inl (inr e)) (λ z. absurd (omega arith))
 
-  claims-short : length states < length (objectsIn capacity batch) → Of (refusedResult records states 20 0)
-  claims-short q = claims-refused 20 0 (omega arith) (omega arith) (inr refl) (λ _. (q, refl))
+  claims-short : length states < length (objectsIn capacity batch) → Of true (refusedResult records states 20 0)
+  claims-short q = claims-refused true 20 0 (omega arith) (omega arith) (λ e. absurd (not-both true refl e)) (λ _. refl) (inr refl) (λ _. (q, refl))
 
   -- a run
   module _ (room : length (objectsIn capacity batch) ≤ length states) where
@@ -143,11 +146,13 @@ module _ (capacity : ℕ) (batch run records states filled : List ℕ) where
     no-refusal (inl (inr e)) = omega (arith, within (omega arith) .0)
     no-refusal (inr e) = omega (arith, within (omega arith) .0)
 
-    claims-ran : Of (record { answer = ranAnswer (r .verdict) (r .position); records = filled; states = r .states })
+    claims-ran : Of true (record { answer = ranAnswer (r .verdict) (r .position); records = filled; states = r .states })
     claims-ran =
         record {
           cases = by-number (λ z. inr (inl z)) (λ l. inr (inr (within l .0)));
           last = by-number (λ z. omega arith) (λ l. omega (arith, within l .1));
+          turnedAway = λ e. absurd (not-both true refl e);
+          goesOn = λ _. by-number (λ z. inr (inl z)) (λ l. inr (inr (within l .0)));
           refused = λ x. absurd (no-refusal x);
           short = λ z. absurd (omega (arith, within (omega arith) .0));
           room = λ g. room;

@@ -1,12 +1,13 @@
 -- What is claimed of every order check, beside what it is: whom it names, what it leaves, and what its numbers tell apart. Document 01,
 -- "Who waits for whom".
 use mathlib.Core.Path.{_≡_}
-use mathlib.Core.Bool.{true}
+use mathlib.Core.Bool.{Bool, true, false}
 use mathlib.Core.Logic.{_⊎_}
 use mathlib.Core.List.{List}
-use Prim.Native.Nat.{ℕ, _<_, _≤_}
+use Prim.Native.Nat.{ℕ, _/_, _<_, _≤_}
 use lib.ListN.{length, getD, take, set}
 use Rattle.words.specs.Dwords.{dwordsOf, putLe}
+use Rattle.reading.specs.Decision.{decided, wholeDwords}
 use Rattle.records.specs.Records.{recorded}
 use Rattle.objects.specs.Objects.{Object}
 use Rattle.runs.specs.Run.{stateAt, objectOfEvent, starts, finishes, verdictOf, begun, ran}
@@ -19,8 +20,8 @@ abbrev pub TurnedAway : ℕ → Type 0
 TurnedAway n = ((1 ≤ n) × (n ≤ 10)) ⊎ (n ≡ 17)
 
 -- Of a batch and a run, with the records and states lent: what the check gives back. `filled` is the record buffer with the batch's
--- records in it.
-module _ (capacity : ℕ) (batch run records states filled : List ℕ) (given : Result (List ℕ)) where
+-- records in it, and `taken` says whether the batch passes 1 to 10 (and 17).
+module _ (capacity : ℕ) (batch run records states filled : List ℕ) (taken : Bool) (given : Result (List ℕ)) where
   abbrev pub answer : Answer
   answer = given .answer
 
@@ -60,6 +61,9 @@ module _ (capacity : ℕ) (batch run records states filled : List ℕ) (given : 
     -- 25 is the last number
     pub cases : Refused ⊎ Began
     pub last : answer .number ≤ 25
+    -- the batch's own refusals, and no others, come before 20 and the run
+    pub turnedAway : taken ≡ false → TurnedAway (answer .number)
+    pub goesOn : taken ≡ true → (answer .number ≡ 20) ⊎ Began
     -- "Refused with 1 to 10 (or 17) of the batch, then 20 ..: nothing changes"
     pub refused : Refused → (given .records ≡ records) × (given .states ≡ states)
     -- "20 (fewer state bytes than objects; position 0)"
@@ -97,16 +101,25 @@ module _ (capacity : ℕ) (batch run records states filled : List ℕ) (given : 
     -- and no state byte is gained or lost
     pub long : length (given .states) ≡ length states
 
+-- does the batch pass 1 to 10, by the decision that both checks share? Over bytes: and 17, of the batch, then of the run
+abbrev pub passes : ℕ → ℕ → List ℕ → Bool
+passes capacity room b = decided (λ m p. false) (λ commands dwords. true) capacity room b
+
+abbrev pub bytesPass : ℕ → List ℕ → List ℕ → List ℕ → Bool
+bytesPass capacity batch run records =
+    wholeDwords (λ m p. false) batch (wholeDwords (λ m p. false) run (passes capacity (length records / 4) (dwordsOf batch)))
+
 -- the dword entry
 abbrev pub Claimed : ℕ → List ℕ → List ℕ → List ℕ → List ℕ → Type 0
 Claimed capacity batch run records states =
-    Claims capacity batch run records states (recorded set capacity batch records) (orderOf capacity batch run records states)
+    Claims capacity batch run records states (recorded set capacity batch records) (passes capacity (length records) batch)
+    (orderOf capacity batch run records states)
 
 -- the byte entry, of the dwords of the batch and of the run
 abbrev pub BytesClaimed : ℕ → List ℕ → List ℕ → List ℕ → List ℕ → Type 0
 BytesClaimed capacity batch run records states =
     Claims capacity (dwordsOf batch) (dwordsOf run) records states (recorded putLe capacity (dwordsOf batch) records)
-    (bytesOrderOf capacity batch run records states)
+    (bytesPass capacity batch run records) (bytesOrderOf capacity batch run records states)
 
 -- every order check, over dwords and over bytes, whatever is lent
 abbrev pub AllClaimed : Type 0
