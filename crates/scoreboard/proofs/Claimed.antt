@@ -1,6 +1,5 @@
 -- Every claim of specs/Claims.antt, of every batch, run, record buffer and state bytes. Assumes nothing.
 use mathlib.Core.Path.{_≡_, refl, sym, ap, subst, subst⁻¹, _∙_}
-use mathlib.Core.Bool.{Bool, true, false}
 use mathlib.Core.Logic.{_⊎_, inl, inr}
 use mathlib.Core.List.{List, [], _∷_, List·Memᴰ, List·Memᴰ·not-nil}
 use Prim.Native.Nat.{ℕ, zero, suc, _/_, _<_, _≤_}
@@ -8,11 +7,13 @@ use native.Mathlib.Omega.{arith}
 use lib.Dec.{eqb}
 use borrow.Author.Tests.{eqb-true, eqb-false}
 use lib.ListN.{length, getD, take, set}
-use Rattle.laws.proofs.Choices.{by-cond, by-test, not-both}
+use Rattle.laws.proofs.Choices.{by-cond, by-test}
 use Rattle.words.specs.Dwords.{dwordsOf, putLe}
 use Rattle.command.specs.Order.{Command}
 use Rattle.records.specs.Records.{recorded}
 use Rattle.reading.specs.Vfes.{commandNumber}
+use Rattle.reading.specs.declared.Scanned.{Scanned}
+use Rattle.reading.specs.declared.Scanned.the-variants.{Stopped, Ended}
 use Rattle.reading.specs.Reading.{readingOf}
 use Rattle.objects.specs.Objects.{Delta, Object, objectOf, objectsOf, objectAt}
 use Rattle.runs.specs.declared.Verdict.{Verdict}
@@ -23,7 +24,7 @@ use Rattle.runs.proofs.Named.{bad-number, unknown, not-waiting, not-running, na
 use Rattle.runs.proofs.Runs.{ran-started, ran-unnamed}
 use Rattle.runs.proofs.Stops.{Stops, stops, ran-past, ran-long}
 use Rattle.scoreboard.specs.Answers.{objectsIn, ranAnswer, Result, refusedResult, orderOf, bytesOrderOf}
-use Rattle.scoreboard.specs.Claims.{TurnedAway, Began, Claims, Claimed, BytesClaimed, AllClaimed}
+use Rattle.scoreboard.specs.Claims.{TurnedAway, Began, LeadsTo, Claims, Claimed, BytesClaimed, AllClaimed}
 use Rattle.scoreboard.proofs.ByOrder.{by-order, by-bytes-order}
 
 -- every delta in play of an object of a batch is one of the eight
@@ -42,18 +43,18 @@ objects-eight all (c ∷ cs) =
     (λ _. eight-cons (objectOf (c .head) (commandNumber all (c .vfe) .head)) (objectsOf all cs) (object-eight _ _ _ _ _ _ _ _) (objects-eight all cs)) (λ _. objects-eight all cs)
 
 module _ (capacity : ℕ) (batch run records states filled : List ℕ) where
-  abbrev Of : Bool → Result (List ℕ) → Type 0
-  Of taken g = Claims capacity batch run records states filled taken g
+  abbrev Of : Scanned → Result (List ℕ) → Type 0
+  Of decision g = Claims capacity batch run records states filled decision g
 
   -- a refusal
-  claims-refused : (taken : Bool) (m p : ℕ) → 0 < m → m < 21 → (taken ≡ false → TurnedAway m) → (taken ≡ true → m ≡ 20) → TurnedAway m ⊎ (m ≡ 20) → (m ≡ 20 → (length states < length (objectsIn capacity batch)) × (p ≡ 0))
-      → Of taken (refusedResult records states m p)
-  claims-refused taken m p l h away on which few =
+  claims-refused : (decision : Scanned) (m p : ℕ) → 0 < m → m < 21
+      → LeadsTo capacity batch run records states filled decision (refusedResult records states m p) decision → TurnedAway m ⊎ (m ≡ 20) → (m ≡ 20 → (length states < length (objectsIn capacity batch)) × (p ≡ 0))
+      → Of decision (refusedResult records states m p)
+  claims-refused decision m p l h leads which few =
       record {
         cases = inl which;
         last = omega arith;
-        turnedAway = away;
-        goesOn = λ e. inl (on e);
+        leads = leads;
         refused = λ _. (refl, refl);
         short = few;
         room = λ g. absurd (no g);
@@ -74,16 +75,16 @@ module _ (capacity : ℕ) (batch run records states filled : List ℕ) where
         long = refl;
       }
     where
-      no : Began capacity batch run records states filled taken (refusedResult records states m p) → ⊥
+      no : Began capacity batch run records states filled decision (refusedResult records states m p) → ⊥
       no (inl z) = omega arith
       no (inr z) = omega arith
 
-  claims-batch : (m p : ℕ) → TurnedAway m → Of false (refusedResult records states m p)
-  claims-batch m p (inl t) = let l = t .0 in let h = t .1 in claims-refused false m p (omega arith) (omega arith) (λ _. inl t) (λ e. absurd (not-both false e refl)) (inl (inl t)) (λ z. absurd (omega arith))
-  claims-batch m p (inr e) = claims-refused false m p (omega arith) (omega arith) (λ _. inr e) (λ x. absurd (not-both false x refl)) (inl (inr e)) (λ z. absurd (omega arith))
+  claims-batch : (m p : ℕ) → TurnedAway m → Of (Stopped m p) (refusedResult records states m p)
+  claims-batch m p (inl t) = let l = t .0 in let h = t .1 in claims-refused (Stopped m p) m p (omega arith) (omega arith) (refl, inl t) (inl (inl t)) (λ z. absurd (omega arith))
+  claims-batch m p (inr e) = claims-refused (Stopped m p) m p (omega arith) (omega arith) (refl, inr e) (inl (inr e)) (λ z. absurd (omega arith))
 
-  claims-short : length states < length (objectsIn capacity batch) → Of true (refusedResult records states 20 0)
-  claims-short q = claims-refused true 20 0 (omega arith) (omega arith) (λ e. absurd (not-both true refl e)) (λ _. refl) (inr refl) (λ _. (q, refl))
+  claims-short : (c d o : ℕ) → length states < length (objectsIn capacity batch) → Of (Ended c d o) (refusedResult records states 20 0)
+  claims-short c d o q = claims-refused (Ended c d o) 20 0 (omega arith) (omega arith) (inl refl) (inr refl) (λ _. (q, refl))
 
   -- a run
   module _ (room : length (objectsIn capacity batch) ≤ length states) where
@@ -146,13 +147,12 @@ module _ (capacity : ℕ) (batch run records states filled : List ℕ) where
     no-refusal (inl (inr e)) = omega (arith, within (omega arith) .0)
     no-refusal (inr e) = omega (arith, within (omega arith) .0)
 
-    claims-ran : Of true (record { answer = ranAnswer (r .verdict) (r .position); records = filled; states = r .states })
-    claims-ran =
+    claims-ran : (c d o : ℕ) → Of (Ended c d o) (record { answer = ranAnswer (r .verdict) (r .position); records = filled; states = r .states })
+    claims-ran c d o =
         record {
           cases = by-number (λ z. inr (inl z)) (λ l. inr (inr (within l .0)));
           last = by-number (λ z. omega arith) (λ l. omega (arith, within l .1));
-          turnedAway = λ e. absurd (not-both true refl e);
-          goesOn = λ _. by-number (λ z. inr (inl z)) (λ l. inr (inr (within l .0)));
+          leads = by-number (λ z. inr (inl z)) (λ l. inr (inr (within l .0)));
           refused = λ x. absurd (no-refusal x);
           short = λ z. absurd (omega (arith, within (omega arith) .0));
           room = λ g. room;
@@ -180,7 +180,7 @@ module _ (capacity : ℕ) (batch run records states : List ℕ) where
   claimed =
       let f = recorded set capacity batch records in
       by-order set capacity (length records) batch run records states (Of capacity batch run records states f) (claims-batch capacity batch run records states f)
-      (claims-short capacity batch run records states f) (claims-ran capacity batch run records states f)
+      (claims-short capacity batch run records states f) (λ c d o room. claims-ran capacity batch run records states f room c d o)
 
   -- LAW: the byte entry
   pub bytes-claimed : BytesClaimed capacity batch run records states
@@ -189,7 +189,7 @@ module _ (capacity : ℕ) (batch run records states : List ℕ) where
       let e = dwordsOf run in
       let f = recorded putLe capacity b records in
       by-bytes-order capacity batch run records states (Of capacity b e records states f) (claims-batch capacity b e records states f)
-      (claims-short capacity b e records states f) (claims-ran capacity b e records states f)
+      (claims-short capacity b e records states f) (λ c d o room. claims-ran capacity b e records states f room c d o)
 
 pub all-claimed : AllClaimed
 all-claimed capacity batch run records states = (claimed capacity batch run records states, bytes-claimed capacity batch run records states)

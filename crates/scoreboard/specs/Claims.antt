@@ -1,27 +1,29 @@
 -- What is claimed of every order check, beside what it is: whom it names, what it leaves, and what its numbers tell apart. Document 01,
 -- "Who waits for whom".
 use mathlib.Core.Path.{_≡_}
-use mathlib.Core.Bool.{Bool, true, false}
+use mathlib.Core.Bool.{true}
 use mathlib.Core.Logic.{_⊎_}
 use mathlib.Core.List.{List}
 use Prim.Native.Nat.{ℕ, _/_, _<_, _≤_}
 use lib.ListN.{length, getD, take, set}
 use Rattle.words.specs.Dwords.{dwordsOf, putLe}
-use Rattle.reading.specs.Decision.{decided, wholeDwords}
+use Rattle.reading.specs.declared.Scanned.{Scanned}
+use Rattle.reading.specs.declared.Scanned.the-variants as variants
+use Rattle.reading.specs.Decision.{decisionOf, wholeDwords}
 use Rattle.records.specs.Records.{recorded}
 use Rattle.objects.specs.Objects.{Object}
 use Rattle.runs.specs.Run.{stateAt, objectOfEvent, starts, finishes, verdictOf, begun, ran}
 use Rattle.runs.specs.Waits.{Stalls, Blocks, Started}
 use Rattle.scoreboard.specs.declared.Answer.{Answer}
-use Rattle.scoreboard.specs.Answers.{objectsIn, Result, orderOf, bytesOrderOf}
+use Rattle.scoreboard.specs.Answers.{objectsIn, refusedAnswer, Result, orderOf, bytesOrderOf}
 
 -- the numbers of a batch that is turned away: "1 to 10 (or 17) of the batch"
 abbrev pub TurnedAway : ℕ → Type 0
 TurnedAway n = ((1 ≤ n) × (n ≤ 10)) ⊎ (n ≡ 17)
 
 -- Of a batch and a run, with the records and states lent: what the check gives back. `filled` is the record buffer with the batch's
--- records in it, and `taken` says whether the batch passes 1 to 10 (and 17).
-module _ (capacity : ℕ) (batch run records states filled : List ℕ) (taken : Bool) (given : Result (List ℕ)) where
+-- records in it, and `decision` what the batch check decides of the batch.
+module _ (capacity : ℕ) (batch run records states filled : List ℕ) (decision : Scanned) (given : Result (List ℕ)) where
   abbrev pub answer : Answer
   answer = given .answer
 
@@ -50,20 +52,24 @@ module _ (capacity : ℕ) (batch run records states filled : List ℕ) (taken : 
   Refused = TurnedAway (answer .number) ⊎ (answer .number ≡ 20)
 
   -- a run that a bad event stopped
-  abbrev pub Stopped : Type 0
-  Stopped = 20 < answer .number
+  abbrev pub StoppedRun : Type 0
+  StoppedRun = 20 < answer .number
 
   -- a run that began: taken to its end, or stopped
   abbrev pub Began : Type 0
-  Began = (answer .number ≡ 0) ⊎ Stopped
+  Began = (answer .number ≡ 0) ⊎ StoppedRun
+
+  -- what a decision on the batch leads to: its refusal, number and place; else 20, or the run
+  abbrev pub LeadsTo : Scanned → Type 0
+  LeadsTo (variants.Stopped m p) = (answer ≡ refusedAnswer m p) × TurnedAway m
+  LeadsTo (variants.Ended commands dwords objects) = (answer .number ≡ 20) ⊎ Began
 
   pub record Claims : Type 0 where
     -- 25 is the last number
     pub cases : Refused ⊎ Began
     pub last : answer .number ≤ 25
-    -- the batch's own refusals, and no others, come before 20 and the run
-    pub turnedAway : taken ≡ false → TurnedAway (answer .number)
-    pub goesOn : taken ≡ true → (answer .number ≡ 20) ⊎ Began
+    -- "Refused with 1 to 10 (or 17) of the batch, then 20": as the batch check refuses it, and only then
+    pub leads : LeadsTo decision
     -- "Refused with 1 to 10 (or 17) of the batch, then 20 ..: nothing changes"
     pub refused : Refused → (given .records ≡ records) × (given .states ≡ states)
     -- "20 (fewer state bytes than objects; position 0)"
@@ -78,7 +84,7 @@ module _ (capacity : ℕ) (batch run records states filled : List ℕ) (taken : 
     -- "A run taken to its end answers 0 and its event count": no refusal and no bad event has the number 0
     pub end : answer .number ≡ 0 → answer .place ≡ length run
     -- ".. stops the run with its position": the event there has the number
-    pub bad : Stopped → (answer .place < length run) × (verdictOf objects before event .number ≡ answer .number)
+    pub bad : StoppedRun → (answer .place < length run) × (verdictOf objects before event .number ≡ answer .number)
     -- "21 no such object"
     pub unknown : answer .number ≡ 21 → length objects ≤ k
     -- "22 start of one not waiting"
@@ -101,25 +107,22 @@ module _ (capacity : ℕ) (batch run records states filled : List ℕ) (taken : 
     -- and no state byte is gained or lost
     pub long : length (given .states) ≡ length states
 
--- does the batch pass 1 to 10, by the decision that both checks share? Over bytes: and 17, of the batch, then of the run
-abbrev pub passes : ℕ → ℕ → List ℕ → Bool
-passes capacity room b = decided (λ m p. false) (λ commands dwords. true) capacity room b
-
-abbrev pub bytesPass : ℕ → List ℕ → List ℕ → List ℕ → Bool
-bytesPass capacity batch run records =
-    wholeDwords (λ m p. false) batch (wholeDwords (λ m p. false) run (passes capacity (length records / 4) (dwordsOf batch)))
+-- the decision over bytes: 17 of "batch, then run", then as over dwords
+abbrev pub bytesDecision : ℕ → List ℕ → List ℕ → List ℕ → Scanned
+bytesDecision capacity batch run records =
+    wholeDwords variants.Stopped batch (wholeDwords variants.Stopped run (decisionOf capacity (length records / 4) (dwordsOf batch)))
 
 -- the dword entry
 abbrev pub Claimed : ℕ → List ℕ → List ℕ → List ℕ → List ℕ → Type 0
 Claimed capacity batch run records states =
-    Claims capacity batch run records states (recorded set capacity batch records) (passes capacity (length records) batch)
+    Claims capacity batch run records states (recorded set capacity batch records) (decisionOf capacity (length records) batch)
     (orderOf capacity batch run records states)
 
 -- the byte entry, of the dwords of the batch and of the run
 abbrev pub BytesClaimed : ℕ → List ℕ → List ℕ → List ℕ → List ℕ → Type 0
 BytesClaimed capacity batch run records states =
     Claims capacity (dwordsOf batch) (dwordsOf run) records states (recorded putLe capacity (dwordsOf batch) records)
-    (bytesPass capacity batch run records) (bytesOrderOf capacity batch run records states)
+    (bytesDecision capacity batch run records) (bytesOrderOf capacity batch run records states)
 
 -- every order check, over dwords and over bytes, whatever is lent
 abbrev pub AllClaimed : Type 0
