@@ -15,7 +15,16 @@ use Rattle.reading.proofs.Decisions.{by-refusal, by-success, fits-records}
 use Rattle.records.specs.Records.{recorded}
 use Rattle.records.proofs.Buffers.{written-view, written-bytes}
 use Rattle.batch.specs.declared.Answer.{Answer}
-use Rattle.batch.specs.Answers.{refusedAnswer, acceptedAnswer, recordedIn, answerOf, recordsOf, bytesAnswerOf, bytesRecordsOf}
+use Rattle.batch.specs.Answers.{refusedAnswer, acceptedAnswer, answerBy, recordedIn, answerOf, recordsOf, bytesAnswerOf, bytesRecordsOf}
+
+-- the answer by what was found
+pub answered-stopped : (w : Scanned) (m p : ℕ) (a : Answer) → w ≡ Stopped m p → a ≡ refusedAnswer m p → a ≡ answerBy w
+answered-stopped w m p a e q = q ∙ ap answerBy (sym e)
+
+pub answered-ended : (w : Scanned) (c d o : ℕ) (a : Answer) → w ≡ Ended c d o → a ≡ acceptedAnswer c d → a ≡ answerBy w
+answered-ended w c d o a e q = q ∙ ap answerBy (sym e)
+
+pub ruleset answered-laws = (answered-stopped, answered-ended)
 
 -- the record buffer of a core that writes to either
 module _ (capacity room : ℕ) (b : List ℕ) (w : Scanned) (ew : w ≡ decisionOf capacity room b) {B : Type 0} (put : B → ℕ → ℕ → B) (r : B) where

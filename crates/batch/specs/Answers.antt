@@ -3,6 +3,8 @@ use Prim.Native.Nat.{ℕ, _/_}
 use mathlib.Core.List.{List}
 use lib.ListN.{length, set}
 use Rattle.words.specs.Dwords.{dwordsOf, putLe}
+use Rattle.reading.specs.declared.Scanned.{Scanned}
+use Rattle.reading.specs.declared.Scanned.the-variants.{Stopped, Ended}
 use Rattle.reading.specs.Decision.{decided, wholeDwords}
 use Rattle.records.specs.Records.{recorded}
 use Rattle.batch.specs.declared.Answer.{Answer}
@@ -13,6 +15,11 @@ refusedAnswer number place = record { number = number; place = place; commands =
 
 abbrev pub acceptedAnswer : ℕ → ℕ → Answer
 acceptedAnswer commands dwords = record { number = 0; place = 0; commands = commands; dwords = dwords }
+
+-- by what the decision found
+abbrev pub answerBy : Scanned → Answer
+answerBy (Stopped m p) = refusedAnswer m p
+answerBy (Ended c d o) = acceptedAnswer c d
 
 -- The record buffer r at exit: "Nothing lent changes on any refusal of this table"; success "fills that many records, nothing past them".
 unfoldable pub recordedIn : {B : Type 0} → (B → ℕ → ℕ → B) → ℕ → ℕ → List ℕ → B → B

@@ -1,6 +1,6 @@
 // The batch check: a pass that decides and writes nothing, then a pass that writes the records.
 ghost use mathlib.Core.Path.{_≡_};
-ghost use Rattle.batch.specs.Answers.{refusedAnswer, acceptedAnswer, answerOf, recordsOf, bytesAnswerOf, bytesRecordsOf};
+ghost use Rattle.batch.specs.Answers.{refusedAnswer, acceptedAnswer, answerBy, answerOf, recordsOf, bytesAnswerOf, bytesRecordsOf};
 use reading::Scanned;
 use reading::decide;
 use records::fill;
@@ -36,6 +36,20 @@ fn accepted(commands: usize, dwords: usize) -> Answer
     }
 }
 
+// The answer, read off the decision after the records are written: before that, the loads would wait for the stores that made it.
+fn answered(found: Scanned) -> Answer
+    ensures { λ r. ⌜ r ≡ answerBy found ⌝ }
+{
+    match found {
+        Scanned::Stopped { number, place } => refused(number, place),
+        Scanned::Ended {
+            commands,
+            dwords,
+            objects,
+        } => accepted(commands, dwords),
+    }
+}
+
 // The batch check over dwords: may the chip read this batch? On acceptance the records stand in `records`; on refusal it is as it was.
 pub fn check(batch: &[u32], capacity: u32, records: &mut [u32]) -> Answer
     ensures { λ r. ⌜ (r ≡ answerOf capacity (now (batch .entry)) (now (records .entry)))
@@ -43,7 +57,8 @@ pub fn check(batch: &[u32], capacity: u32, records: &mut [u32]) -> Answer
 {
     let none: [u8; 0] = [];
     let mut empty: [u8; 0] = [];
-    match decide(batch, &none, capacity, records.len()) {
+    let found = decide(batch, &none, capacity, records.len());
+    match found {
         Scanned::Stopped { number, place } => refused(number, place),
         Scanned::Ended {
             commands,
@@ -51,7 +66,7 @@ pub fn check(batch: &[u32], capacity: u32, records: &mut [u32]) -> Answer
             objects,
         } => {
             fill(batch, &none, capacity, records, &mut empty);
-            accepted(commands, dwords)
+            answered(found)
         }
     }
 }
@@ -66,7 +81,8 @@ pub fn check_bytes(batch: &[u8], capacity: u32, records: &mut [u8]) -> Answer
     }
     let none: [u32; 0] = [];
     let mut empty: [u32; 0] = [];
-    match decide(&none, batch, capacity, records.len() / 4) {
+    let found = decide(&none, batch, capacity, records.len() / 4);
+    match found {
         Scanned::Stopped { number, place } => refused(number, place),
         Scanned::Ended {
             commands,
@@ -74,7 +90,7 @@ pub fn check_bytes(batch: &[u8], capacity: u32, records: &mut [u8]) -> Answer
             objects,
         } => {
             fill(&none, batch, capacity, &mut empty, records);
-            accepted(commands, dwords)
+            answered(found)
         }
     }
 }

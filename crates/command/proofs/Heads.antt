@@ -92,3 +92,28 @@ unfolding kindOf
 media-kind d m e h =
     let f : d / 65536 % 65536 ≡ m = sym (and-mask (d / 65536) 16) ∙ e in
     simp (taken, e, ne-eqb d 0x0000_0000 (λ q. omega arith), ne-eqb d 0x0200_0000 (λ q. omega arith), ne-eqb d 0x0500_0000 (λ q. omega arith))
+
+-- no command of the table
+pub no-kind : (d m : ℕ) → bitAnd (d / 65536) 65535 ≡ m → (d ≡ 0x0000_0000 → ⊥) → (d ≡ 0x0200_0000 → ⊥) → (d ≡ 0x0500_0000 → ⊥)
+    → (m ≡ 0x7000 → ⊥) → (m ≡ 0x7001 → ⊥) → (m ≡ 0x7002 → ⊥) → (m ≡ 0x7004 → ⊥) → (m ≡ 0x7100 → ⊥) → noKind ≡ kindOf d
+unfolding kindOf
+no-kind d m e n0 n1 n2 n3 n4 n5 n6 n7 =
+    simp (
+      taken,
+      e,
+      ne-eqb d 0x0000_0000 n0,
+      ne-eqb d 0x0200_0000 n1,
+      ne-eqb d 0x0500_0000 n2,
+      ne-eqb m 0x7000 n3,
+      ne-eqb m 0x7001 n4,
+      ne-eqb m 0x7002 n5,
+      ne-eqb m 0x7004 n6,
+      ne-eqb m 0x7100 n7,
+    )
+
+-- nor is a dword below those of media commands, but for kinds 0 to 2
+pub no-plain-kind : (d : ℕ) → d < 0x7000_0000 → (d ≡ 0x0000_0000 → ⊥) → (d ≡ 0x0200_0000 → ⊥) → (d ≡ 0x0500_0000 → ⊥) → noKind ≡ kindOf d
+no-plain-kind d h n0 n1 n2 =
+    let f : d / 65536 % 65536 ≡ bitAnd (d / 65536) 65535 = sym (and-mask (d / 65536) 16) in
+    no-kind d (bitAnd (d / 65536) 65535) refl n0 n1 n2
+    (λ q. omega arith) (λ q. omega arith) (λ q. omega arith) (λ q. omega arith) (λ q. omega arith)

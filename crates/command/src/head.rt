@@ -1,33 +1,44 @@
 // A command's first dword, and the dwords of its own.
 ghost use mathlib.Core.Path.{_≡_};
+ghost use Prim.Native.Nat.{_<_};
 ghost use lib.ListN.{drop};
 ghost use Rattle.words.specs.Dwords.{lent};
 ghost use Rattle.command.specs.Kinds.{kindOf, totalOf, ownDwords, headOf, DwordsAt};
 use words::word;
 
-pub fn kind(d: u32) -> u32
+// The kind of a dword below those of media commands.
+fn plain_kind(d: u32) -> u32
+    requires { ⌜ d < 0x7000_0000 ⌝ }
     ensures { λ r. ⌜ r ≡ kindOf d ⌝ }
 {
-    // the OBJECT first, then the no-op: most of a batch. Tests of the opcodes and of the whole dword take turns, so that the compiler makes
-    // no table of jumps of them
-    let opcodes = (d >> 16) & 0xffff;
-    if opcodes == 0x7100 {
-        return 7;
-    }
     if d == 0 {
         return 0;
     }
-    if opcodes == 0x7000 {
-        return 3;
+    if d == 0x0200_0000 {
+        return 1;
     }
     if d == 0x0500_0000 {
         return 2;
     }
+    255
+}
+
+pub fn kind(d: u32) -> u32
+    ensures { λ r. ⌜ r ≡ kindOf d ⌝ }
+{
+    // the OBJECT first: most of a batch. The test of the whole dword keeps the compiler from making a table of jumps
+    let opcodes = (d >> 16) & 0xffff;
+    if opcodes == 0x7100 {
+        return 7;
+    }
+    if opcodes == 0x7000 {
+        return 3;
+    }
+    if d < 0x7000_0000 {
+        return plain_kind(d);
+    }
     if opcodes == 0x7002 {
         return 5;
-    }
-    if d == 0x0200_0000 {
-        return 1;
     }
     if opcodes == 0x7001 {
         return 4;

@@ -61,6 +61,11 @@ module _ (k d left : ℕ) (e : headerVerdict k d left ≡ Passed) where
   unfolding headerVerdict
   passed-fits = ltb-false left (totalOf k d) (no-row numberOf Passed (headerRows k d left) tt (ap numberOf e) 2)
 
+-- rows 3 to 5 of the same first dword, where it fits
+pub header-fits : (k d left left′ : ℕ) → headerVerdict k d left ≡ Passed → totalOf k d ≤ left′ → headerVerdict k d left′ ≡ Passed
+unfolding headerVerdict
+header-fits k d left left′ e p = simp (ne-eqb k noKind (passed-known k d left e), passed-length k d left e, le-ltb left′ (totalOf k d) p)
+
 -- an OBJECT that passes has an earlier VFE: the row of 8 that asks for one comes after the rows of 3 to 7
 pub passed-after-vfe : (capacity left : ℕ) (h : List ℕ) (cs : List Command) → judgeOf 7 left h (stateOf capacity cs) ≡ Passed → earlierVfe cs ≡ true
 unfolding judgeOf stateOf

@@ -1,7 +1,8 @@
 -- Why a command is turned away: rows 3 to 9 of document 01's table. "The first faulty command decides; inside it, table order. Place is the
 -- command's first dword, except as shown": here a place counts from that dword.
 use Prim.Native.Nat.{ℕ, _+_, _*_, _%_}
-use mathlib.Core.Bool.{Bool, not, _&&_, _||_}
+use mathlib.Core.Path.{_≡_}
+use mathlib.Core.Bool.{Bool, true, false, not, _&&_, _||_}
 use mathlib.Core.List.{List, [], _∷_, _++_}
 use lib.Dec.{ltb, leb, eqb}
 use Rattle.laws.specs.Rows.{Row, row, firstRow}
@@ -73,3 +74,12 @@ headerVerdict k d left = firstRow Passed (headerRows k d left)
 
 unfoldable pub ownVerdict : ℕ → List ℕ → State → Verdict
 ownVerdict k h st = firstRow Passed (ownRows k h st)
+
+-- does a verdict let a command pass?
+abbrev pub isPassed : Verdict → Bool
+isPassed (Fault m s) = false
+isPassed Passed = true
+
+-- A quick answer to whether a command of kind k passes rows 6 to 9, for the code alone: yes is right, and no leaves it open.
+pub record Vouches (k : ℕ) (h : List ℕ) (st : State) (answer : Bool) : Type 0 where
+  pub passes : answer ≡ true → ownVerdict k h st ≡ Passed

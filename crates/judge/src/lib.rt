@@ -1,10 +1,11 @@
 // Refusals 3 to 9 of one command: rows 3 to 5 by its first dword, rows 6 to 9 by its kind.
 ghost use mathlib.Core.Path.{_≡_};
 ghost use Rattle.command.specs.Kinds.{lengthField, lengthAllowed};
-ghost use Rattle.judge.specs.Refusals.{headerVerdict, ownVerdict};
+ghost use Rattle.judge.specs.Refusals.{headerVerdict, ownVerdict, isPassed, Vouches};
 use command::State;
 use command::head::total;
 use masks::marked;
+use masks::stray;
 
 // A refusal of document 01 at a dword counted from the command's first, or none.
 pub enum Verdict {
@@ -170,5 +171,45 @@ pub fn own_verdict(k: u32, h: [u32; 8], st: State) -> Verdict
         5 => descriptor_load(h, st),
         6 => state_flush(h, st),
         _ => Verdict::Passed,
+    }
+}
+
+// Does an OBJECT with own dwords h pass rows 6 to 9? One test for the must-be-zero bits of dwords 2 to 5, and one for dword 1: an index
+// below a count of at most 64 leaves no room for bits 7:6. Where the answer is no, `own_verdict` decides.
+fn sound_object(h: [u32; 8], st: State) -> bool
+    ensures { λ r. ⌜ Vouches 7 h st r ⌝ }
+{
+    if stray(7, 2, h[2]) | stray(7, 3, h[3]) | stray(7, 4, h[4]) | stray(7, 5, h[5]) != 0 {
+        return false;
+    }
+    if st.earlier_vfe == 0 {
+        return false;
+    }
+    if 64 < st.count_loaded {
+        return false;
+    }
+    h[1] & 0xff < st.count_loaded
+}
+
+fn passed(v: Verdict) -> bool
+    ensures { λ r. ⌜ r ≡ isPassed v ⌝ }
+{
+    match v {
+        Verdict::Fault { number, skip } => false,
+        Verdict::Passed => true,
+    }
+}
+
+// Does a command of kind k with own dwords h pass rows 6 to 9? A quick answer, which may be no where `own_verdict` lets it pass.
+pub fn sound(k: u32, h: [u32; 8], st: State) -> bool
+    ensures { λ r. ⌜ Vouches k h st r ⌝ }
+{
+    match k {
+        7 => sound_object(h, st),
+        4 => passed(curbe_load(h, st)),
+        5 => passed(descriptor_load(h, st)),
+        6 => passed(state_flush(h, st)),
+        0 => true,
+        _ => false,
     }
 }

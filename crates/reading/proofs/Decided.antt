@@ -33,12 +33,6 @@ module _ {A : Type 0} (P : A → Type 0) (refused accepted : ℕ → ℕ → A) 
       by-cond P (ltb 16384 (length b)) (refused 1 0) (atStop refused accepted room n s) (λ t. long (ltb-true 16384 (length b) t))
       (λ t. by-stop (ltb-false 16384 (length b) t) s refl (read-number capacity b))
 
--- LAW: the same of 17: of whole dwords, and of bytes that are over
-pub by-whole : {A : Type 0} (P : A → Type 0) (refused : ℕ → ℕ → A) (bytes : List ℕ) (given : A) → (length bytes % 4 ≡ 0 → P given)
-    → ((length bytes % 4 ≡ 0 → ⊥) → P (refused 17 (length bytes / 4))) → P (wholeDwords refused bytes given)
-by-whole P refused bytes given p q =
-    by-cond P (eqb (length bytes % 4) 0) given (refused 17 (length bytes / 4)) (λ t. p (eqb-true (length bytes % 4) 0 t)) (λ t. q (eqb-false (length bytes % 4) 0 t))
-
 -- LAW: bytes of one length go by rule 17 alike
 pub whole-same : {A : Type 0} (refused : ℕ → ℕ → A) (bytes bytes′ : List ℕ) (given given′ : A) → length bytes ≡ length bytes′ → given ≡ given′
     → wholeDwords refused bytes given ≡ wholeDwords refused bytes′ given′

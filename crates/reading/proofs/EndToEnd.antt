@@ -21,11 +21,11 @@ use Rattle.command.proofs.Order.{state-after}
 use Rattle.judge.proofs.Judged.{total-pos, passed-header, passed-length}
 use Rattle.reading.specs.Reading.{Stop, ended, stopped, Reading, reading, andThen, commandAt, read, readingOf}
 use Rattle.reading.specs.declared.Turn.the-variants.{Last, Next}
-use Rattle.reading.specs.Turns.{turned, turnOf}
+use Rattle.reading.specs.Turns.{walk, turned, turnOf}
 use Rattle.reading.specs.Vfes.{commandNumber}
 use Rattle.reading.specs.EndToEnd.{commandIn, verdictIn, Stands, EndToEnd, usedUp, faulty, last, next}
 use Rattle.reading.proofs.Verdicts.{by-verdict}
-use Rattle.reading.proofs.Walk.{walk, read-walk, then, turn-at, walk-end, passes-in}
+use Rattle.reading.proofs.Walk.{read-walk, then, turn-at, walk-end, passes-in}
 
 -- past the table's eight kinds no length field is allowed
 known-kind : (k d left : ℕ) → headerVerdict k d left ≡ Passed → k < 8

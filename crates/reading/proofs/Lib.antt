@@ -2,6 +2,7 @@ pub mod Verdicts
 pub mod Turns
 pub mod Walk
 pub mod Scans
+pub mod Steps
 pub mod EndToEnd
 pub mod Numbers
 pub mod Decided

@@ -14,11 +14,12 @@ use Rattle.command.specs.Order.{Command, commandOf, stateOf, stateAfter}
 use Rattle.judge.specs.Refusals.{judgeOf}
 use Rattle.command.proofs.Heads.{own-pos, own-object, own-end, head-same}
 use Rattle.judge.proofs.Judged.{own-in-total, passed-header, total-pos}
+use Rattle.reading.specs.Turns.{walk}
 use Rattle.reading.specs.Reading.{ended, stopped, Reading, reading, andThen, commandAt, afterVerdict, readingOf}
 use Rattle.reading.specs.Decision.{decided}
 use Rattle.reading.specs.Unread.{InlineData, Unread}
 use Rattle.reading.proofs.Verdicts.{by-verdicts, by-verdict}
-use Rattle.reading.proofs.Walk.{walk, reading-walk}
+use Rattle.reading.proofs.Walk.{reading-walk}
 
 -- what is unread at a refusal, after END, and after one command more
 none-unread : (m p i : ℕ) → Unread (reading [] (stopped m p)) i → ⊥

@@ -20,8 +20,8 @@ use Rattle.reading.specs.declared.Turn.{Turn}
 use Rattle.reading.specs.declared.Turn.the-variants.{Refused, Last, Next}
 use Rattle.reading.specs.Reading.{Reading, andThen, readingOf}
 use Rattle.reading.specs.Decision.{scanned, scanOf}
-use Rattle.reading.specs.Turns.{turnOf, here}
-use Rattle.reading.proofs.Walk.{walk, reading-walk, then, turn-at, walk-end, passes-in}
+use Rattle.reading.specs.Turns.{walk, turnOf, here, scannedAfter, scannedAt, scanFrom}
+use Rattle.reading.proofs.Walk.{reading-walk, then, turn-at, walk-end, passes-in}
 use Rattle.reading.proofs.Verdicts.{by-verdict}
 
 -- the bounds of a turn at a command of kind k, with n dwords left
@@ -72,14 +72,6 @@ module _ (b : List ℕ) (L : ℕ) (el : L ≡ length b) (at : ℕ) (st : State) 
 
 pub ruleset next-laws = (next-less, next-in, next-commands, next-objects)
 
--- what is found, where n commands with o objects among them stand before a reading
-abbrev pub scannedAfter : ℕ → ℕ → Reading → Scanned
-scannedAfter n o r = scanned (n + length (r .passed)) (o + objectCount (r .passed)) (r .stop)
-
--- the same by what a state counts
-abbrev pub scannedAt : State → Reading → Scanned
-scannedAt st r = scannedAfter (st .commands) (st .objects) r
-
 pub scan-start : (capacity : ℕ) (b : List ℕ) (st : State) → st ≡ stateOf capacity [] → scannedAt st (walk b 0 0 st) ≡ scanOf capacity b
 unfolding scanOf stateOf objectCount
 scan-start capacity b st e =
@@ -106,23 +98,23 @@ counted false o n = refl
 last-count : (k o : ℕ) → k ≡ 2 → o + cond (eqb k 7) (0 + 1) 0 ≡ o
 last-count k o e = simp (ne-eqb k 7 (λ q. omega arith)) (omega arith)
 
-module _ (capacity : ℕ) (b : List ℕ) (L : ℕ) (el : L ≡ length b) (at : ℕ) (st : State) (w : Turn) (p : at < L)
-    (inv : scannedAt st (walk (drop at b) 0 at st) ≡ scanOf capacity b) (ew : w ≡ turnOf (drop at b) st) where
-  scan-turn : (v : Turn) → w ≡ v → scannedAt st (then v (drop at b) at st) ≡ scanOf capacity b
+module _ (x : Scanned) (b : List ℕ) (L : ℕ) (el : L ≡ length b) (at : ℕ) (st : State) (w : Turn) (p : at < L)
+    (inv : scanFrom b at st ≡ x) (ew : w ≡ turnOf (drop at b) st) where
+  scan-turn : (v : Turn) → w ≡ v → scannedAt st (then v (drop at b) at st) ≡ x
   scan-turn v e =
-      ap (λ (x : Turn). scannedAt st (then x (drop at b) at st)) (sym e ∙ ew)
+      ap (λ (v : Turn). scannedAt st (then v (drop at b) at st)) (sym e ∙ ew)
       ∙ ap (scannedAt st) (sym (turn-at b at st (omega arith))) ∙ inv
 
-  pub scan-refused : (m s : ℕ) → w ≡ Refused m s → Stopped m (at + s) ≡ scanOf capacity b
+  pub scan-refused : (m s : ℕ) → w ≡ Refused m s → Stopped m (at + s) ≡ x
   scan-refused m s e = scan-turn (Refused m s) e
 
-  pub scan-last : w ≡ Last → Ended (st .commands + 1) (at + 1) (st .objects) ≡ scanOf capacity b
+  pub scan-last : w ≡ Last → Ended (st .commands + 1) (at + 1) (st .objects) ≡ x
   unfolding objectCount
   scan-last e =
       let k : kindAt b at ≡ 2 = subst (TurnBounds (length b - at) (kindAt b at) st) (sym ew ∙ e) (bounds-at b at st (omega arith)) in
       ap (λ (o : ℕ). Ended (st .commands + 1) (at + 1) o) (sym (last-count (kindAt b at) (st .objects) k)) ∙ scan-turn Last e
 
-  pub scan-next : (t : ℕ) (s : State) → w ≡ Next t s → scannedAt s (walk (drop (at + t) b) 0 (at + t) s) ≡ scanOf capacity b
+  pub scan-next : (t : ℕ) (s : State) → w ≡ Next t s → scanFrom b (at + t) s ≡ x
   unfolding objectCount
   scan-next t s e =
       let z = next-bounds b L el at st w t s p ew e in

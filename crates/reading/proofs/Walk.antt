@@ -17,17 +17,8 @@ use Rattle.judge.proofs.Judged.{passed-header, passed-fits, total-pos}
 use Rattle.reading.specs.declared.Turn.{Turn}
 use Rattle.reading.specs.declared.Turn.the-variants.{Refused, Last, Next}
 use Rattle.reading.specs.Reading.{ended, stopped, Reading, reading, andThen, commandAt, afterVerdict, read, readingOf}
-use Rattle.reading.specs.Turns.{turned, turnOf, here}
+use Rattle.reading.specs.Turns.{turned, turnOf, here, walk}
 use Rattle.reading.proofs.Verdicts.{by-verdicts}
-
--- `read`, with the state in place of the list of commands before
-unfoldable pub walk : List ℕ → ℕ → ℕ → State → Reading
-walk [] n at st = reading [] (stopped 2 at)
-walk (d ∷ ds) (suc n) at st = walk ds n (at + 1) st
-walk (d ∷ ds) zero at st =
-    let k = kindOf d in
-    let c = commandAt k (d ∷ ds) at st in
-    afterVerdict (judgeOf k (length (d ∷ ds)) (c .head) st) c (walk ds (c .total - 1) (at + 1) (stateAfter k (c .head) st))
 
 pub read-walk : (capacity : ℕ) (l : List ℕ) (n at : ℕ) (cs : List Command) → read capacity l n at cs ≡ walk l n at (stateOf capacity cs)
 unfolding read walk

@@ -1,4 +1,6 @@
 pub mod RecordWords
+pub mod Totals
 pub mod Fills
+pub mod Places
 pub mod Slots
 pub mod Buffers

@@ -1,11 +1,13 @@
 // The second pass over a batch: it writes the records.
 ghost use mathlib.Core.Path.{_≡_};
 ghost use Prim.Native.Nat.{_+_, _*_, _^_, _<_, _≤_};
-ghost use lib.ListN.{length, drop};
+ghost use lib.ListN.{length};
 ghost use Rattle.words.specs.Dwords.{lent, lentBuffer, putIn};
-ghost use Rattle.reading.specs.Turns.{turnOf, StartsWith};
+ghost use mathlib.Core.Bool.{true};
+ghost use Rattle.command.specs.Kinds.{lengthField, lengthAllowed, totalOf};
+ghost use Rattle.reading.specs.Turns.{StartsWith, Header};
 ghost use Rattle.records.specs.Records.{slot, putWords, Fits, recorded};
-ghost use Rattle.records.specs.Turns.{PassesAt, turnAs, withRecord};
+ghost use Rattle.records.specs.Turns.{recordsFrom, Left, restOf, GoesOn, Ready, Onward};
 use command::State;
 use command::head::kind;
 use command::head::own_dwords;
@@ -17,10 +19,10 @@ use words::held;
 use words::store_in;
 use words::word;
 
-// Where the second pass goes from a command that passed.
-enum Following {
-    End,
-    Then { total: u32, st: State },
+// Where the second pass goes on.
+enum Place {
+    Done,
+    From { at: usize, st: State },
 }
 
 // Where word f of record i stands in a record buffer.
@@ -43,6 +45,21 @@ fn put(rd: &mut [u32], rb: &mut [u8], i: usize, w: [u32; 16])
     }
 }
 
+// The total of a command of kind k that passed, with first dword d: only an OBJECT's is not the kind's own.
+fn passed_total(k: u32, d: u32) -> u32
+    requires { ⌜ lengthAllowed k (lengthField d) ≡ true ⌝ }
+    ensures { λ r. ⌜ r ≡ totalOf k d ⌝ }
+{
+    match k {
+        7 => (d & 0xffff) + 2,
+        3 => 8,
+        4 => 4,
+        5 => 4,
+        6 => 2,
+        _ => 1,
+    }
+}
+
 // Writes the record of the command of kind k at a place, whose first dword is d.
 fn record_as(
     dw: &[u32],
@@ -53,43 +70,90 @@ fn record_as(
     st: State,
     rd: &mut [u32],
     rb: &mut [u8],
-) -> Following
-    requires { ⌜ PassesAt (lent dw by) at st (lent rd rb) × StartsWith (lent dw by) at k d ⌝ }
-    ensures { λ r. ⌜ (turnAs r ≡ turnOf (drop at (lent (dw .entry) (by .entry))) st)
-        × (lentBuffer (rd .exit) (rb .exit) ≡ withRecord (lent (dw .entry) (by .entry)) at st (lentBuffer (rd .entry) (rb .entry))) ⌝ }
+) -> Place
+    requires { ⌜ Left (lent dw by) at st (length (lent rd rb)) × StartsWith (lent dw by) at k d ⌝ }
+    ensures { λ r. ⌜ (restOf (lent (dw .entry) (by .entry)) r (lentBuffer (rd .exit) (rb .exit))
+        ≡ recordsFrom (lent (dw .entry) (by .entry)) at st (lentBuffer (rd .entry) (rb .entry)))
+        × GoesOn (lent (dw .entry) (by .entry)) (at + 1) (length (lent (rd .entry) (rb .entry))) r
+        × Ready (lent (dw .entry) (by .entry)) k d (length (lent (rd .entry) (rb .entry))) r ⌝ }
 {
-    let t = total(k, d);
+    let t = passed_total(k, d);
     let h = own_dwords(dw, by, at, k, d);
     put(rd, rb, st.commands as usize, words(k, h, at as u32, t, st));
     if k == 2 {
-        return Following::End;
+        return Place::Done;
     }
-    Following::Then {
-        total: t,
+    Place::From {
+        at: at + t as usize,
         st: after(k, h, st),
     }
 }
 
-// Writes the record of the command at a place, with code of its own for the same kinds.
-fn record_at(
+// Writes the records of the commands from a place on that start with the same dword d, of kind k, as the one before.
+fn again(
     dw: &[u32],
     by: &[u8],
-    at: usize,
+    from: usize,
+    k: u32,
+    d: u32,
     st: State,
     rd: &mut [u32],
     rb: &mut [u8],
-) -> Following
-    requires { ⌜ PassesAt (lent dw by) at st (lent rd rb) ⌝ }
-    ensures { λ r. ⌜ (turnAs r ≡ turnOf (drop at (lent (dw .entry) (by .entry))) st)
-        × (lentBuffer (rd .exit) (rb .exit) ≡ withRecord (lent (dw .entry) (by .entry)) at st (lentBuffer (rd .entry) (rb .entry))) ⌝ }
+) -> Place
+    requires { ⌜ Left (lent dw by) from st (length (lent rd rb)) × Header k d ⌝ }
+    ensures { λ r. ⌜ (restOf (lent (dw .entry) (by .entry)) r (lentBuffer (rd .exit) (rb .exit))
+        ≡ recordsFrom (lent (dw .entry) (by .entry)) from st (lentBuffer (rd .entry) (rb .entry)))
+        × GoesOn (lent (dw .entry) (by .entry)) from (length (lent (rd .entry) (rb .entry))) r ⌝ }
+{
+    let t = passed_total(k, d);
+    let mut at = from;
+    let mut s = st;
+    while word(dw, by, at) == d {
+        let h = own_dwords(dw, by, at, k, d);
+        put(rd, rb, s.commands as usize, words(k, h, at as u32, t, s));
+        s = after(k, h, s);
+        at = at + t as usize;
+    }
+    Place::From { at, st: s }
+}
+
+// After a first command, those that start with the same dword.
+fn and_again(
+    dw: &[u32],
+    by: &[u8],
+    k: u32,
+    d: u32,
+    first: Place,
+    rd: &mut [u32],
+    rb: &mut [u8],
+) -> Place
+    requires { ⌜ Ready (lent dw by) k d (length (lent rd rb)) first ⌝ }
+    ensures { λ r. ⌜ (restOf (lent (dw .entry) (by .entry)) r (lentBuffer (rd .exit) (rb .exit))
+        ≡ restOf (lent (dw .entry) (by .entry)) first (lentBuffer (rd .entry) (rb .entry)))
+        × Onward (lent (dw .entry) (by .entry)) (length (lent (rd .entry) (rb .entry))) first r ⌝ }
+{
+    match first {
+        Place::Done => Place::Done,
+        Place::From { at, st } => again(dw, by, at, k, d, st, rd, rb),
+    }
+}
+
+// Writes the record of the command at a place, and of those after it that start with the same dword, where these are OBJECTs or no-ops.
+fn record_at(dw: &[u32], by: &[u8], at: usize, st: State, rd: &mut [u32], rb: &mut [u8]) -> Place
+    requires { ⌜ Left (lent dw by) at st (length (lent rd rb)) ⌝ }
+    ensures { λ r. ⌜ (restOf (lent (dw .entry) (by .entry)) r (lentBuffer (rd .exit) (rb .exit))
+        ≡ recordsFrom (lent (dw .entry) (by .entry)) at st (lentBuffer (rd .entry) (rb .entry)))
+        × GoesOn (lent (dw .entry) (by .entry)) (at + 1) (length (lent (rd .entry) (rb .entry))) r ⌝ }
 {
     let d = word(dw, by, at);
     let k = kind(d);
     if k == 7 {
-        return record_as(dw, by, at, 7, d, st, rd, rb);
+        let first = record_as(dw, by, at, 7, d, st, rd, rb);
+        return and_again(dw, by, 7, d, first, rd, rb);
     }
     if k == 0 {
-        return record_as(dw, by, at, 0, d, st, rd, rb);
+        let first = record_as(dw, by, at, 0, d, st, rd, rb);
+        return and_again(dw, by, 0, d, first, rd, rb);
     }
     if k == 3 {
         return record_as(dw, by, at, 3, d, st, rd, rb);
@@ -97,8 +161,11 @@ fn record_at(
     if k == 5 {
         return record_as(dw, by, at, 5, d, st, rd, rb);
     }
-    if k == 2 {
-        return record_as(dw, by, at, 2, d, st, rd, rb);
+    if k == 4 {
+        return record_as(dw, by, at, 4, d, st, rd, rb);
+    }
+    if k == 6 {
+        return record_as(dw, by, at, 6, d, st, rd, rb);
     }
     record_as(dw, by, at, k, d, st, rd, rb)
 }
@@ -114,11 +181,11 @@ pub fn fill(dw: &[u32], by: &[u8], capacity: u32, rd: &mut [u32], rb: &mut [u8])
     let mut st = start(capacity);
     while at < len {
         match record_at(dw, by, at, st, rd, rb) {
-            Following::End => {
+            Place::Done => {
                 return;
             }
-            Following::Then { total: t, st: next } => {
-                at = at + t as usize;
+            Place::From { at: to, st: next } => {
+                at = to;
                 st = next;
             }
         }

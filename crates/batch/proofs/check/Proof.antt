@@ -10,14 +10,14 @@ slice-aggregate-decide c = search needs
 decide-requires : tie.Need-decide-requires
 decide-requires c κs = search needs
 
-enum-known-number : tie.Need-enum-known-number
-enum-known-number c = search needs
+enum-known-found : tie.Need-enum-known-found
+enum-known-found c = search needs
 
 refused-requires : tie.Need-refused-requires
 refused-requires c κs = search needs
 
-enum-known-commands : tie.Need-enum-known-commands
-enum-known-commands c = search needs
+enum-known-found-2 : tie.Need-enum-known-found-2
+enum-known-found-2 c = search needs
 
 slice-aggregate-fill : tie.Need-slice-aggregate-fill
 slice-aggregate-fill c = search needs
@@ -28,8 +28,8 @@ slice-aggregate-fill-2 c = search needs
 fill-requires : tie.Need-fill-requires
 fill-requires c κs = (search fits, search fits, search dwords-room)
 
-accepted-requires : tie.Need-accepted-requires
-accepted-requires c κs = search needs
+answered-requires : tie.Need-answered-requires
+answered-requires c κs = search needs
 
 returns : tie.Need-returns
 returns c = (search dwords-laws, search dwords-laws)
@@ -46,13 +46,13 @@ check-spec =
     (tie.spec
     slice-aggregate-decide
     decide-requires
-    enum-known-number
+    enum-known-found
     refused-requires
-    enum-known-commands
+    enum-known-found-2
     slice-aggregate-fill
     slice-aggregate-fill-2
     fill-requires
-    accepted-requires
+    answered-requires
     returns
     same-length
     returns-2)

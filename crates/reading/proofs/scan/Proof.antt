@@ -1,20 +1,18 @@
 use Prim.Native.Nat.{_≤_, _-_}
 use mathlib.Core.Path.{_≡_}
 use borrow.Author.Needs.{needs}
-use lib.ListN.{length, drop}
+use lib.ListN.{length}
 use Rattle.words.specs.Dwords.{dwordsIn}
 use Rattle.reading.specs.Decision.{scanOf}
-use Rattle.reading.proofs.Walk.{walk}
-use Rattle.reading.proofs.Scans.{scannedAt, start-laws, scan-laws, next-laws}
+use Rattle.reading.specs.Turns.{scanFrom}
+use Rattle.reading.proofs.Scans.{start-laws, scan-laws}
+use Rattle.reading.proofs.Steps.{found-laws, on-laws}
 use Rattle.reading.proofs.scan.Statement.{statement}
 use Rattle.reading.proofs.scan.Tie as tie
 
 abbrev Inv-loop : tie.InvT-loop
 Inv-loop dw by capacity len at₀ st₀ at st =
-    (at ≤ length (dwordsIn dw by))
-    × (st .commands ≤ at)
-    × (st .objects ≤ at)
-    × (scannedAt st (walk (drop at (dwordsIn dw by)) 0 at st) ≡ scanOf capacity (dwordsIn dw by))
+    (at ≤ length (dwordsIn dw by)) × (st .commands ≤ at) × (st .objects ≤ at) × (scanFrom (dwordsIn dw by) at st ≡ scanOf capacity (dwordsIn dw by))
 
 abbrev μ-loop : tie.MeasureT-loop
 μ-loop dw by capacity len at₀ st₀ at st = length (dwordsIn dw by) - at
@@ -41,7 +39,7 @@ add-t14 : tie.Need-add-t14 Inv-loop μ-loop
 add-t14 c = search needs
 
 returns : tie.Need-returns Inv-loop μ-loop
-returns c = search scan-laws
+returns c = search found-laws
 
 enum-told : tie.Need-enum-told Inv-loop μ-loop
 enum-told c = search needs
@@ -59,22 +57,16 @@ cast-t18 : tie.Need-cast-t18 Inv-loop μ-loop
 cast-t18 c = search needs
 
 returns-2 : tie.Need-returns-2 Inv-loop μ-loop
-returns-2 c = search scan-laws
+returns-2 c = search found-laws
 
-enum-known-total : tie.Need-enum-known-total Inv-loop μ-loop
-enum-known-total c = search needs
-
-cast-at : tie.Need-cast-at Inv-loop μ-loop
-cast-at c = search needs
-
-add-at : tie.Need-add-at Inv-loop μ-loop
-add-at c = search needs
+enum-known-to : tie.Need-enum-known-to Inv-loop μ-loop
+enum-known-to c = search needs
 
 loop-less : tie.Need-loop-less Inv-loop μ-loop
-loop-less c = search next-laws
+loop-less c = search on-laws
 
 loop-again : tie.Need-loop-again Inv-loop μ-loop
-loop-again c = (search next-laws, search next-laws, search next-laws, search scan-laws)
+loop-again c = (search on-laws, search on-laws, search on-laws, search found-laws)
 
 returns-3 : tie.Need-returns-3 Inv-loop μ-loop
 returns-3 c = search scan-laws
@@ -99,9 +91,7 @@ scan-spec =
     add-t17
     cast-t18
     returns-2
-    enum-known-total
-    cast-at
-    add-at
+    enum-known-to
     loop-less
     loop-again
     returns-3)

@@ -1,27 +1,21 @@
-use Prim.Native.Nat.{_+_, _≤_, _-_}
-use mathlib.Core.Path.{_≡_, refl}
+use Prim.Native.Nat.{_≤_, _-_}
+use mathlib.Core.Path.{_≡_, refl, sym}
 use borrow.Author.Needs.{needs}
-use lib.ListN.{length, drop}
+use lib.ListN.{length}
 use Rattle.words.specs.Dwords.{dwordsIn, buffer, putIn}
-use Rattle.reading.specs.Reading.{Whole, readingOf}
-use Rattle.records.specs.Records.{written}
 use Rattle.records.specs.Records.{recorded}
-use Rattle.reading.proofs.Walk.{walk}
-use Rattle.reading.proofs.Scans.{start-laws}
-use Rattle.records.proofs.Fills.{fill-laws, fill-commands, fill-objects, fill-room, record-laws}
+use Rattle.records.specs.Turns.{recordsFrom, Left}
+use Rattle.records.proofs.Fills.{start-left, start-records}
+use Rattle.records.proofs.Places.{same-left, done-records, from-records, from-left, from-less, left-over}
 use Rattle.records.proofs.fill.Statement.{statement}
 use Rattle.records.proofs.fill.Tie as tie
 
 abbrev Inv-loop : tie.InvT-loop
 Inv-loop dw by capacity rd₀ rb₀ len at₀ st₀ rd rb at st =
-    (at ≤ length (dwordsIn dw by))
-    × (st .commands ≤ at)
-    × (st .objects ≤ at)
+    Left (dwordsIn dw by) at st (length (dwordsIn rd₀ rb₀))
     × (length rd ≡ length rd₀)
     × (length rb ≡ length rb₀)
-    × Whole (walk (drop at (dwordsIn dw by)) 0 at st .stop)
-    × (st .commands + length (walk (drop at (dwordsIn dw by)) 0 at st .passed) ≡ length (readingOf capacity (dwordsIn dw by) .passed))
-    × (written putIn (walk (drop at (dwordsIn dw by)) 0 at st .passed) (st .commands) (buffer rd rb) ≡ recorded putIn capacity (dwordsIn dw by) (buffer rd₀ rb₀))
+    × (recordsFrom (dwordsIn dw by) at st (buffer rd rb) ≡ recorded putIn capacity (dwordsIn dw by) (buffer rd₀ rb₀))
 
 abbrev μ-loop : tie.MeasureT-loop
 μ-loop dw by capacity rd₀ rb₀ len at₀ st₀ rd rb at st = length (dwordsIn dw by) - at
@@ -33,10 +27,10 @@ start-requires : tie.Need-start-requires Inv-loop μ-loop
 start-requires c κs = search needs
 
 loop-holds : tie.Need-loop-holds Inv-loop μ-loop
-loop-holds c = (search needs, search start-laws, search start-laws, refl, refl, search fill-laws, search fill-laws, search record-laws)
+loop-holds c = (start-left _ _ _ (c .start .ensures) _ (c .before .before .before .before .before .before .pre), refl, refl, start-records _ _ _ (c .start .ensures) _)
 
 record-at-requires : tie.Need-record-at-requires Inv-loop μ-loop
-record-at-requires c κs = (search needs, search needs, search needs, search needs, search fill-laws, search fill-room)
+record-at-requires c κs = let q = c .before .before .before .loop .inv in same-left _ _ _ _ _ _ _ (q .1) (q .2) (q .0)
 
 enum-told : tie.Need-enum-told Inv-loop μ-loop
 enum-told c = search needs
@@ -48,35 +42,23 @@ same-length-2 : tie.Need-same-length-2 Inv-loop μ-loop
 same-length-2 c = search needs
 
 returns : tie.Need-returns Inv-loop μ-loop
-returns c = search record-laws
+returns c = done-records _ _ _ _ _ (c .before .before .before .before .before .before .record-at .ensures .0) (search needs) (c .before .before .before .before .before .before .before .before .before .before .loop .inv .3)
 
-enum-known-t : tie.Need-enum-known-t Inv-loop μ-loop
-enum-known-t c = search needs
-
-cast-at : tie.Need-cast-at Inv-loop μ-loop
-cast-at c = search needs
-
-add-at : tie.Need-add-at Inv-loop μ-loop
-add-at c = search needs
+enum-known-to : tie.Need-enum-known-to Inv-loop μ-loop
+enum-known-to c = search needs
 
 loop-less : tie.Need-loop-less Inv-loop μ-loop
-loop-less c = search fill-laws
+loop-less c = from-less _ _ _ _ _ _ (c .before .before .before .before .before .before .before .record-at .ensures .1) (c .before .to .given .1) _ refl
 
 loop-again : tie.Need-loop-again Inv-loop μ-loop
 loop-again c =
-    let l = c .before .before .before .before .before .before .before .before .before .before .before in
-    let n = l .before .before .held .ensures in
-    let p = c .before .before .before .before .before .before .before .before .before .before .loop-test .taken in
-    let r = c .before .before .before .before .before .before .before .record-at .ensures .0 in
-    let e = c .before .t .given .1 in (
-      search fill-laws,
-      fill-commands _ _ n _ _ p (l .loop .inv .5) _ r _ _ e (l .loop .inv .1),
-      fill-objects _ _ n _ _ p (l .loop .inv .5) _ r _ _ e (l .loop .inv .2),
+    let q = c .before .before .before .before .before .before .before .before .before .before .before .loop .inv in
+    let w = c .before .before .before .before .before .before .before .record-at .ensures in
+    let e = c .before .to .given .1 in (
+      same-left _ _ _ _ _ _ _ (sym (q .1)) (sym (q .2)) (from-left _ _ _ _ _ _ (w .1) e),
       search needs,
       search needs,
-      search fill-laws,
-      search fill-laws,
-      search record-laws,
+      from-records _ _ _ _ _ _ _ (w .0) e (q .3),
     )
 
 same-length-3 : tie.Need-same-length-3 Inv-loop μ-loop
@@ -86,7 +68,7 @@ same-length-4 : tie.Need-same-length-4 Inv-loop μ-loop
 same-length-4 c = search needs
 
 returns-2 : tie.Need-returns-2 Inv-loop μ-loop
-returns-2 c = search record-laws
+returns-2 c = left-over _ _ _ _ _ _ _ (c .before .loop .inv .0) (c .before .before .before .held .ensures) (c .loop-test .left)
 
 pub fill-spec : {M : Type 1} → statement M
 fill-spec =
@@ -102,9 +84,7 @@ fill-spec =
     same-length
     same-length-2
     returns
-    enum-known-t
-    cast-at
-    add-at
+    enum-known-to
     loop-less
     loop-again
     same-length-3

@@ -1,8 +1,6 @@
-use mathlib.Core.Path.{sym, ap}
-use Rattle.laws.proofs.BitRanges.{taken}
-use Rattle.command.specs.Kinds.{kindOf}
-use Rattle.laws.proofs.Tests.{tests}
-use Rattle.command.proofs.Heads.{media-kind}
+use mathlib.Core.Path.{refl}
+use Rattle.command.proofs.Heads.{media-kind, no-kind}
+use borrow.Author.Needs.{needs}
 use native.Mathlib.Omega.{arith}
 use Rattle.command.proofs.head.kind.Statement.{statement}
 use Rattle.command.proofs.head.kind.Tie as tie
@@ -11,45 +9,28 @@ returns : tie.Need-returns
 returns c = media-kind _ 0x7100 (c .if1 .taken) (omega arith)
 
 returns-2 : tie.Need-returns-2
-unfolding kindOf
-returns-2 c = ap kindOf (sym (c .if2 .taken))
+returns-2 c = media-kind _ 0x7000 (c .if2 .taken) (omega arith)
+
+plain-kind-requires : tie.Need-plain-kind-requires
+plain-kind-requires c κs = search needs
 
 returns-3 : tie.Need-returns-3
-returns-3 c = media-kind _ 0x7000 (c .if3 .taken) (omega arith)
+returns-3 c = search needs
 
 returns-4 : tie.Need-returns-4
-unfolding kindOf
-returns-4 c = ap kindOf (sym (c .if4 .taken))
+returns-4 c = media-kind _ 0x7002 (c .if4 .taken) (omega arith)
 
 returns-5 : tie.Need-returns-5
-returns-5 c = media-kind _ 0x7002 (c .if5 .taken) (omega arith)
+returns-5 c = media-kind _ 0x7001 (c .if5 .taken) (omega arith)
 
 returns-6 : tie.Need-returns-6
-unfolding kindOf
-returns-6 c = ap kindOf (sym (c .if6 .taken))
+returns-6 c = media-kind _ 0x7004 (c .if6 .taken) (omega arith)
 
 returns-7 : tie.Need-returns-7
-unfolding kindOf
-returns-7 c = rw taken (search (tests, arith))
-
-returns-8 : tie.Need-returns-8
-unfolding kindOf
-returns-8 c = rw taken (search (tests, arith))
-
-returns-9 : tie.Need-returns-9
-unfolding kindOf
-returns-9 c = rw taken (search (tests, arith))
+returns-7 c =
+    no-kind _ _ refl (λ q. omega arith) (λ q. omega arith) (λ q. omega arith)
+    (c .before .before .before .before .if2 .left) (c .before .if5 .left) (c .before .before .if4 .left) (c .if6 .left)
+    (c .before .before .before .before .before .if1 .left)
 
 pub kind-spec : {M : Type 1} → statement M
-kind-spec =
-    tie.close
-    (tie.spec
-    returns
-    returns-2
-    returns-3
-    returns-4
-    returns-5
-    returns-6
-    returns-7
-    returns-8
-    returns-9)
+kind-spec = tie.close (tie.spec returns returns-2 plain-kind-requires returns-3 returns-4 returns-5 returns-6 returns-7)

@@ -1,10 +1,10 @@
 use Rattle.laws.proofs.BitRanges.{by-table}
 use Rattle.masks.specs.MustBeZero.{marks, markedBits}
 use borrow.Author.Needs.{needs}
-use Rattle.masks.proofs.marked.Statement.{statement}
-use Rattle.masks.proofs.marked.Tie as tie
-use Rattle.masks.proofs.marked.Reads as reads
-use Rattle.masks.proofs.marked.Lts as lts
+use Rattle.masks.proofs.stray.Statement.{statement}
+use Rattle.masks.proofs.stray.Tie as tie
+use Rattle.masks.proofs.stray.Reads as reads
+use Rattle.masks.proofs.stray.Lts as lts
 
 mul-result : tie.Need-mul-result
 mul-result c = search needs
@@ -23,5 +23,5 @@ returns : tie.Need-returns
 unfolding marks markedBits
 returns c = search (by-table markedBits 8, needs)
 
-pub marked-spec : {M : Type 1} → statement M
-marked-spec = tie.close (tie.spec mul-result mul-result-2 index-1-result index-2-result returns)
+pub stray-spec : {M : Type 1} → statement M
+stray-spec = tie.close (tie.spec mul-result mul-result-2 index-1-result index-2-result returns)
