@@ -16,7 +16,7 @@ use mir.Facts.{toZ-ofZ}
 use Rattle.laws.specs.BitRanges.{bits, field}
 use Rattle.laws.specs.Find.{NoneBelow}
 use Rattle.laws.proofs.BitRanges.{taken}
-use Rattle.laws.proofs.Choices.{and-left, and-right, not-both}
+use Rattle.laws.proofs.Choices.{by-test, and-left, and-right, not-both}
 use Rattle.laws.proofs.Find.{none, none-next, found, find-at, find-before}
 use Rattle.deltas.specs.Deltas.{deltaOf, deltaDword, byteLow, deltaX, deltaY}
 use Rattle.deltas.specs.InPlay.{bitSet}
@@ -24,39 +24,37 @@ use Rattle.deltas.specs.Meets.{reaches, meetsAt}
 use Rattle.deltas.specs.Lowest.{leadsAt, lowestAt, deltaByte, halfTo, isByte, lowestByte}
 use Rattle.deltas.proofs.Nibbles.{half-small, x-fits, y-fits}
 
-unless : (t : Bool) → (t ≡ true → ⊥) → t ≡ false
+pub unless : (t : Bool) → (t ≡ true → ⊥) → t ≡ false
 unless true n = absurd (n refl)
 unless false n = refl
 
--- one axis
-module _ (x to : ℕ) (h : x < 2 ^ 32) where
-  on : (n : ℕ) → n < 8 → reaches x (pos n) to ≡ true → n ≡ halfTo x to
-  unfolding reaches halfTo
-  on n l e = let q : x + n ≡ to = eqb-true (x + n) to e in omega arith
+-- one axis: a delta with the half byte n leads so far on from 8 before
+module _ (x to : ℕ) where
+  back : (m : ℕ) → reaches x (negsuc m) to ≡ true → to + suc m ≡ x
+  unfolding reaches
+  back m e =
+      by-test (ltb x (suc m))
+      (λ p. let f : reaches x (negsuc m) to ≡ false = simp p in absurd (not-both (reaches x (negsuc m) to) e f))
+      (λ p. let k : suc m ≤ x = ltb-false x (suc m) p in
+      let f : eqb (x - suc m) to ≡ reaches x (negsuc m) to = simp p in
+      let q : x - suc m ≡ to = eqb-true (x - suc m) to (f ∙ e) in
+      omega arith)
 
-  back : (m : ℕ) → m < 8 → reaches x (negsuc m) to ≡ true → 15 - m ≡ halfTo x to
-  unfolding reaches halfTo
-  back m l e = go (ltb x (suc m)) refl
+  pub led : (n : ℕ) → n < 16 → reaches x (deltaOf n) to ≡ true → to + 8 ≡ x + (n + 8) % 16
+  unfolding deltaOf reaches
+  led n l = go (ltb n 8) refl
     where
-      go : (t : Bool) → ltb x (suc m) ≡ t → 15 - m ≡ halfTo x to
-      go true p = let f : reaches x (negsuc m) to ≡ false = simp p in absurd (not-both (reaches x (negsuc m) to) e f)
-      go false p =
-          let k : suc m ≤ x = ltb-false x (suc m) p in
-          let f : eqb (x - suc m) to ≡ reaches x (negsuc m) to = simp p in
-          let q : x - suc m ≡ to = eqb-true (x - suc m) to (f ∙ e) in
-          omega arith
-
-  by-half : (n : ℕ) → n < 16 → reaches x (deltaOf n) to ≡ true → n ≡ halfTo x to
-  unfolding deltaOf
-  by-half n l = go (ltb n 8) refl
-    where
-      go : (t : Bool) → ltb n 8 ≡ t → reaches x (cond t (pos n) (subℕ n 16)) to ≡ true → n ≡ halfTo x to
-      go true p e = on n (ltb-true n 8 p) e
+      go : (t : Bool) → ltb n 8 ≡ t → reaches x (cond t (pos n) (subℕ n 16)) to ≡ true → to + 8 ≡ x + (n + 8) % 16
+      go true p e = let k : n < 8 = ltb-true n 8 p in let q : x + n ≡ to = eqb-true (x + n) to e in omega arith
       go false p e =
           let k : 8 ≤ n = ltb-false n 8 p in
           let s : negsuc (16 - suc n) ≡ subℕ n 16 = simp (lt-ltb n 16 l) in
-          let f : n ≡ 15 - (16 - suc n) = omega arith in
-          f ∙ back (16 - suc n) (omega arith) (ap (λ (z : ℤ). reaches x z to) s ∙ e)
+          let q : to + suc (16 - suc n) ≡ x = back (16 - suc n) (ap (λ (z : ℤ). reaches x z to) s ∙ e) in
+          omega arith
+
+  by-half : x < 2 ^ 32 → (n : ℕ) → n < 16 → reaches x (deltaOf n) to ≡ true → n ≡ halfTo x to
+  unfolding halfTo
+  by-half h n l e = let q = led n l e in omega arith
 
 pub half-below : (x to : ℕ) → halfTo x to < 16
 unfolding halfTo
@@ -75,19 +73,19 @@ halves d l =
 
 -- delta i of two dwords
 module _ (d6 d7 : ℕ) where
-  abbrev lowHalf : ℕ → ℕ
+  abbrev pub lowHalf : ℕ → ℕ
   lowHalf i = field (bits (byteLow i + 3) (byteLow i)) (deltaDword d6 d7 i)
 
-  abbrev highHalf : ℕ → ℕ
+  abbrev pub highHalf : ℕ → ℕ
   highHalf i = field (bits (byteLow i + 7) (byteLow i + 4)) (deltaDword d6 d7 i)
 
-  low-small : (i : ℕ) → lowHalf i < 16
+  pub low-small : (i : ℕ) → lowHalf i < 16
   low-small i = half-small (byteLow i + 3) (byteLow i) (deltaDword d6 d7 i) refl
 
-  high-small : (i : ℕ) → highHalf i < 16
+  pub high-small : (i : ℕ) → highHalf i < 16
   high-small i = half-small (byteLow i + 7) (byteLow i + 4) (deltaDword d6 d7 i) (omega arith)
 
-  byte-halves : (i : ℕ) → deltaByte d6 d7 i ≡ 16 * highHalf i + lowHalf i
+  pub byte-halves : (i : ℕ) → deltaByte d6 d7 i ≡ 16 * highHalf i + lowHalf i
   unfolding deltaByte
   byte-halves i = halves (deltaDword d6 d7 i) (byteLow i)
 
@@ -162,7 +160,7 @@ module _ (x y mask d6 d7 jx jy : ℕ) (hx : x < 2 ^ 32) (hy : y < 2 ^ 32) where
       lowest-off e = sym (none (leadsAt x y mask d6 d7 jx jy) 8 8 (le-refl 8) (λ j h. unless (leadsAt x y mask d6 d7 jx jy j) (λ p. not-both b (off j p) e)))
 
 -- one bit, by shift and mask
-bit : (i m : ℕ) → field (bits i i) m ≡ bitAnd (m / 2 ^ i) 1
+pub bit : (i m : ℕ) → field (bits i i) m ≡ bitAnd (m / 2 ^ i) 1
 bit i m = let e : i - i + 1 ≡ 1 = omega arith in taken i i m ∙ ap (λ (w : ℕ). bitAnd (m / 2 ^ i) (2 ^ w - 1)) e
 
 -- the byte of a delta, by shift and mask
@@ -172,6 +170,15 @@ taken-byte d6 d7 i w e =
     let k : byteLow i + 7 - byteLow i + 1 ≡ 8 = omega arith in
     ap (λ (d : ℕ). bitAnd (d / 2 ^ byteLow i) 255) e
     ∙ sym (taken (byteLow i + 7) (byteLow i) (deltaDword d6 d7 i) ∙ ap (λ (n : ℕ). bitAnd (deltaDword d6 d7 i / 2 ^ byteLow i) (2 ^ n - 1)) k)
+
+-- no bit is set above those that a shift leaves none of
+pub bits-above : (mask i : ℕ) → mask / 2 ^ i ≡ 0 → (j : ℕ) → i ≤ j → bitSet j mask ≡ false
+unfolding field
+bits-above mask i e j h =
+    let k : i + (j - i) ≡ j = omega arith in
+    let z : mask / 2 ^ j ≡ 0 = ap (λ (n : ℕ). mask / 2 ^ n) (sym k) ∙ sym (shr-shr mask i (j - i)) ∙ ap (λ (n : ℕ). n / 2 ^ (j - i)) e ∙ zero-div (2 ^ (j - i)) in
+    let w : j - j + 1 ≡ 1 = omega arith in
+    simp (z, w)
 
 module _ (mask d6 d7 byte i : ℕ) where
   -- what `is_byte` shows
@@ -188,12 +195,8 @@ module _ (mask d6 d7 byte i : ℕ) where
   test = isByte mask d6 d7 byte
 
   above : mask / 2 ^ i ≡ 0 → (j : ℕ) → i ≤ j → test j ≡ false
-  unfolding isByte field
-  above e j h =
-      let k : i + (j - i) ≡ j = omega arith in
-      let z : mask / 2 ^ j ≡ 0 = ap (λ (n : ℕ). mask / 2 ^ n) (sym k) ∙ sym (shr-shr mask i (j - i)) ∙ ap (λ (n : ℕ). n / 2 ^ (j - i)) e ∙ zero-div (2 ^ (j - i)) in
-      let w : j - j + 1 ≡ 1 = omega arith in
-      simp (z, w)
+  unfolding isByte
+  above e j h = simp (bits-above mask i e j h)
 
   pub byte-rest : NoneBelow test i → mask / 2 ^ i ≡ 0 → 8 ≡ lowestByte mask d6 d7 byte
   unfolding lowestByte

@@ -1,5 +1,5 @@
 pub mod Signed
 pub mod Nibbles
 pub mod Masks
-pub mod Far
 pub mod Bytes
+pub mod Reached

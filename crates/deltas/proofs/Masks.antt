@@ -72,11 +72,11 @@ pub joined-small : (m own mask vfe5 : ℕ) → m ≡ joinedMask own mask vfe5 �
 joined-small m own mask vfe5 e = subst⁻¹ (λ (n : ℕ). n < 256) e (joined-below own mask vfe5)
 
 -- a test at every number below n
-abbrev all : (ℕ → Bool) → ℕ → Bool
+abbrev pub all : (ℕ → Bool) → ℕ → Bool
 all f zero = true
 all f (suc n) = f n && all f n
 
-below : (f : ℕ → Bool) (n : ℕ) → T (all f n) → (k : ℕ) → k < n → T (f k)
+pub below : (f : ℕ → Bool) (n : ℕ) → T (all f n) → (k : ℕ) → k < n → T (f k)
 below f zero t k h = absurd (not-suc-le-zero h)
 below f (suc n) t k h = go (below f n (both-right (f n) (all f n) t) k) (eq-or-lt-of-le (le-of-suc-le-suc h))
   where

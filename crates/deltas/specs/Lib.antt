@@ -3,3 +3,4 @@ pub mod Deltas
 pub mod InPlay
 pub mod Meets
 pub mod Lowest
+pub mod Reach

@@ -2,7 +2,7 @@
 -- is the lowest delta of the objects.
 use Prim.Native.Nat.{ℕ, _+_, _-_, _%_, _^_}
 use mathlib.Core.Bool.{Bool, _&&_}
-use lib.Dec.{ltb, leb, eqb}
+use lib.Dec.{eqb}
 use Rattle.laws.specs.BitRanges.{bits, field}
 use Rattle.deltas.specs.Deltas.{deltaDword, byteLow, deltaX, deltaY}
 use Rattle.deltas.specs.InPlay.{bitSet}
@@ -14,10 +14,6 @@ leadsAt x y mask d6 d7 jx jy i = bitSet i mask && meetsAt x y (deltaX d6 d7 i) (
 
 unfoldable pub lowestAt : ℕ → ℕ → ℕ → ℕ → ℕ → ℕ → ℕ → ℕ
 lowestAt x y mask d6 d7 jx jy = findFirst 8 (leadsAt x y mask d6 d7 jx jy)
-
--- can a delta lead from one coordinate to another? It is from -8 to 7. `far-x` and `far-y` of proofs/Far.antt show that none leads further.
-unfoldable pub nearAt : ℕ → ℕ → Bool
-nearAt x to = leb x (to + 8) && ltb to (x + 8)
 
 -- The code searches by bytes; `lowest-found` and `lowest-none` of proofs/Bytes.antt show that this finds the same delta.
 

@@ -2,7 +2,7 @@
 ghost use mathlib.Core.Path.{_≡_};
 ghost use Prim.Native.Nat.{_<_, _≤_};
 ghost use Rattle.deltas.specs.Meets.{reaches, meetsAt};
-ghost use Rattle.deltas.specs.Lowest.{lowestAt, nearAt, halfTo, isByte, lowestByte};
+ghost use Rattle.deltas.specs.Lowest.{lowestAt, halfTo, isByte, lowestByte};
 use crate::table::delta_byte;
 use crate::table::delta_x;
 use crate::table::delta_y;
@@ -60,20 +60,8 @@ fn lowest_byte(mask: u32, d6: u32, d7: u32, byte: u32) -> u32
     8
 }
 
-// Is a coordinate within a delta's reach of another? Most objects are not, and need no more tests. The difference is shifted by 2^32 + 8,
-// so that the compiler makes one test of both.
-pub fn near(x: u32, to: u32) -> bool
-    ensures { λ r. ⌜ r ≡ nearAt x to ⌝ }
-{
-    let shifted = to as u64 + (4294967304 - x as u64);
-    if shifted < 4294967296 {
-        return false;
-    }
-    shifted < 4294967312
-}
-
-// The lowest delta of a mask that leads from (x, y) to (jx, jy), 8 where none does. Modulo 16 one byte alone leads there, and most masks
-// have no such delta; whether one that is found does lead there, the sums decide.
+// The lowest delta of a mask that leads from (x, y) to (jx, jy), 8 where none does. Modulo 16 one byte alone leads there; whether a delta
+// with that byte does lead there, the sums decide.
 pub fn lowest_delta(x: u32, y: u32, mask: u32, d6: u32, d7: u32, jx: u32, jy: u32) -> u32
     ensures { λ r. ⌜ r ≡ lowestAt x y mask d6 d7 jx jy ⌝ }
 {

@@ -1,3 +1,3 @@
 pub mod RecordWords
-pub mod Spots
+pub mod Numbers
 pub mod RecordedObjects

@@ -3,6 +3,7 @@ pub mod Named
 pub mod Runs
 pub mod Lowest
 pub mod Searches
+pub mod Awaited
 pub mod StartRows
 pub mod RunTurns
 pub mod Stops

@@ -79,12 +79,18 @@ module _ (objects : List Object) (states : List ℕ) (e : ℕ) where
       by-rows (λ (x : Verdict). 0 < x .number → (20 < x .number) × (x .number < 26)) noFault table (λ h. absurd (omega arith))
       ((λ _ _. (omega arith, omega arith)), ((λ _ _. (omega arith, omega arith)), ((λ _ _. (omega arith, omega arith)), ((λ _ _. (omega arith, omega arith)), ((λ _ _. (omega arith, omega arith)), tt)))))
 
-  -- 24 and 25 name somebody, and no other
-  pub unnamed : v .number < 24 → (v .object ≡ 0) × (v .delta ≡ 0)
+  -- 24 and 25 name an object, and 25 a delta, and no other
+  pub no-object : v .number < 24 → v .object ≡ 0
   unfolding verdictOf
-  unnamed =
-      by-rows (λ (x : Verdict). x .number < 24 → (x .object ≡ 0) × (x .delta ≡ 0)) noFault table (λ _. (refl, refl))
-      ((λ _ _. (refl, refl)), ((λ _ _. (refl, refl)), ((λ _ _. (refl, refl)), ((λ _ h. absurd (omega arith)), ((λ _ h. absurd (omega arith)), tt)))))
+  no-object =
+      by-rows (λ (x : Verdict). x .number < 24 → x .object ≡ 0) noFault table (λ _. refl)
+      ((λ _ _. refl), ((λ _ _. refl), ((λ _ _. refl), ((λ _ h. absurd (omega arith)), ((λ _ h. absurd (omega arith)), tt)))))
+
+  pub no-delta : v .number < 25 → v .delta ≡ 0
+  unfolding verdictOf
+  no-delta =
+      by-rows (λ (x : Verdict). x .number < 25 → x .delta ≡ 0) noFault table (λ _. refl)
+      ((λ _ _. refl), ((λ _ _. refl), ((λ _ _. refl), ((λ _ _. refl), ((λ _ h. absurd (omega arith)), tt)))))
 
   pub unknown : v .number ≡ 21 → length objects ≤ k
   unknown h = leb-true (length objects) k (decides 0 h .0)

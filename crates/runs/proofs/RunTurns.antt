@@ -1,24 +1,27 @@
 -- One turn of a run's loop, and the states as they begin. Assumes nothing.
 use mathlib.Core.Path.{_≡_, refl, sym, ap, ap₂, subst, _∙_}
-use mathlib.Core.Bool.{Bool, true, false, not, cond}
+use mathlib.Core.Bool.{Bool, true, false, cond, _&&_}
 use mathlib.Core.Logic.{_⊎_, inl, inr}
 use mathlib.Core.List.{List, [], _∷_, _++_}
 use Prim.Native.Nat.{ℕ, zero, suc, _+_, _/_, _<_, _≤_}
 use native.Mathlib.Numerals.{add-one}
 use native.Mathlib.Omega.{arith}
-use lib.Dec.{T, leb, eqb}
+use lib.Dec.{leb, eqb}
 use lib.ListN.{length, getD, set, drop, replicate, length-replicate, drop-of-length-le}
 use lib.Seq.{drop-cons, set-at, getD-set-other}
-use borrow.Author.Tests.{eqb-true, eqb-false, eq-eqb, ne-eqb, leb-false}
+use borrow.Author.Tests.{eqb-true, eqb-false, ne-eqb, leb-false}
 use Rattle.laws.specs.Find.{NoneBelow}
+use Rattle.laws.proofs.Choices.{by-test, not-both}
 use Rattle.runs.specs.declared.Verdict.{Verdict}
 use Rattle.runs.specs.declared.Cursors.{Cursors}
 use Rattle.objects.specs.Objects.{Object}
-use Rattle.runs.specs.Run.{stateAt, starts, stateLeft, fault, noFault, rows, verdictOf, after, Ran, runFrom, begun}
-use Rattle.runs.specs.Starts.{SoundCursors}
+use Rattle.objects.specs.Recorded.{wordAt, isObject}
+use Rattle.runs.specs.Run.{stateAt, unfinished, starts, stateLeft, noFault, verdictOf, after, Ran, runFrom, begun}
+use Rattle.runs.specs.Starts.{SoundCursors, firstCursors}
+use Rattle.awaited.specs.Search.{unfinishedAt, unfinishedRecord}
 use Rattle.runs.proofs.Named.{passes-known, passes-start}
 use Rattle.runs.proofs.Runs.{run-on, run-off}
-use Rattle.objects.proofs.Spots.{spot-first}
+use Rattle.objects.proofs.Numbers.{spot-first}
 
 -- the states as they begin
 pub begun-first : (l : List ℕ) → l ≡ replicate 0 0 ++ drop 0 l
@@ -78,21 +81,41 @@ module _ (objects : List Object) (states : List ℕ) (e : ℕ) (v : Verdict) (ev
       go true z = omega arith
       go false z = omega arith
 
+  -- a finished object stays finished
+  finished-stays : (s i : ℕ) → s ≡ stateLeft e → v .number ≡ 0 → unfinishedAt states i ≡ false → unfinishedAt (set states k s) i ≡ false
+  finished-stays s i es q z = by-test (eqb i k) same (λ t. ap unfinished (getD-set-other states k i s 0 (eqb-false i k t)) ∙ z)
+    where
+      new : unfinishedAt states k ≡ false → unfinished s ≡ false
+      new y =
+          by-test (starts e) (λ o. absurd (not-both (unfinishedAt states k) (ap unfinished (passes-start objects states e (passes q) o)) y))
+          (λ o. ap unfinished (es ∙ ap (λ (b : Bool). cond b 1 2) o))
+
+      at : unfinishedAt states k ≡ false → (stateAt (set states k s) k ≡ s) ⊎ (stateAt (set states k s) k ≡ stateAt states k) → unfinishedAt (set states k s) k ≡ false
+      at y (inl p) = ap unfinished p ∙ new y
+      at y (inr p) = ap unfinished p ∙ y
+
+      same : eqb i k ≡ true → unfinishedAt (set states k s) i ≡ false
+      same t =
+          let p : i ≡ k = eqb-true i k t in
+          subst (λ (m : ℕ). unfinishedAt (set states k s) m ≡ false) (sym p) (at (subst (λ (m : ℕ). unfinishedAt states m ≡ false) p z) (set-either states k s))
+
+  record-stays : (d : List ℕ) (s r : ℕ) → s ≡ stateLeft e → v .number ≡ 0 → unfinishedRecord d states r ≡ false → unfinishedRecord d (set states k s) r ≡ false
+  unfolding unfinishedRecord
+  record-stays d s r es q = go (isObject d r)
+    where
+      go : (t : Bool) → t && unfinishedAt states (wordAt d r 15) ≡ false → t && unfinishedAt (set states k s) (wordAt d r 15) ≡ false
+      go true z = finished-stays s (wordAt d r 15) es q z
+      go false z = refl
+
   pub sound-next : (d : List ℕ) (n : ℕ) (c : Cursors) (s : ℕ) → s ≡ stateLeft e → SoundCursors d n states c → v .number ≡ 0 → SoundCursors d n (set states k s) c
   sound-next d n c s es h q =
       record {
         started = none-set (λ x. eqb x 0) states k s (c .waiting) (h .started) (λ p. ne-eqb s 0 (λ z. left-on (sym es ∙ z)));
-        finished = none-set (λ x. not (eqb x 2)) states k s (c .unfinished .object) (h .finished) new;
+        finished = λ j l. finished-stays s j es q (h .finished j l);
         first = h .first;
         latest = h .latest;
+        crossed = record { forward = h .crossed .forward; finished = λ r a b. record-stays d s r es q (h .crossed .finished r a b) };
       }
-    where
-      new : k < c .unfinished .object → not (eqb s 2) ≡ false
-      new p = go (starts e) refl
-        where
-          go : (t : Bool) → starts e ≡ t → not (eqb s 2) ≡ false
-          go false o = ap not (eq-eqb s 2 (es ∙ ap (λ (b : Bool). cond b 1 2) o))
-          go true o = absurd (subst T (sym (ap (λ (x : ℕ). not (eqb x 2)) (passes-start objects states e (passes q) o)) ∙ h .finished k p) tt)
 
 -- one turn: the event e at position i, of the events es, whose count is L
 module _ (objects : List Object) (es : List ℕ) (L i : ℕ) (states : List ℕ) (whole : Ran) (el : L ≡ length es) (inv : runFrom objects (drop i es) i states ≡ whole) where
@@ -123,8 +146,15 @@ module _ (objects : List Object) (es : List ℕ) (L i : ℕ) (states : List ℕ)
 pub turn-first : (objects : List Object) (es states : List ℕ) → runFrom objects (drop 0 es) 0 states ≡ runFrom objects es 0 states
 turn-first objects es states = refl
 
-pub sound-first : (d : List ℕ) (n : ℕ) (states : List ℕ) → SoundCursors d n states (record { waiting = 0; unfinished = record { object = 0; at = 0 }; last = record { object = 0; at = 0 } })
-sound-first d n states =
-    record { started = λ j h. absurd (omega arith); finished = λ j h. absurd (omega arith); first = spot-first d n; latest = spot-first d n }
+pub sound-first : (d : List ℕ) (n : ℕ) (states : List ℕ) (c : Cursors) → c ≡ firstCursors → SoundCursors d n states c
+sound-first d n states c e =
+    subst (SoundCursors d n states) (sym e)
+    (record {
+      started = λ j h. absurd (omega arith);
+      finished = λ j h. absurd (omega arith);
+      first = spot-first d n;
+      latest = spot-first d n;
+      crossed = record { forward = omega arith; finished = λ r a b. absurd (omega arith) };
+    })
 
 pub ruleset turns = (turn-off, turn-next, turn-ended, turn-first, sound-first, sound-next)

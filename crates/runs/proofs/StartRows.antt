@@ -8,15 +8,16 @@ use lib.Dec.{T, ltb, leb, eqb}
 use lib.ListN.{length, getD}
 use borrow.Author.Tests.{eq-eqb, ne-eqb, lt-ltb, le-ltb, ltb-true, ltb-false, le-leb, lt-leb, leb-true}
 use Rattle.laws.specs.Find.{NoneBelow}
-use Rattle.laws.proofs.Choices.{and-right}
 use Rattle.runs.specs.declared.Verdict.{Verdict}
+use Rattle.awaited.specs.declared.Stretch.{Stretch}
+use Rattle.awaited.specs.Search.{unfinishedAt, Crossed}
 use Rattle.runs.specs.declared.Cursors.{Cursors}
 use Rattle.objects.specs.declared.Spot.{Spot}
 use Rattle.runs.specs.declared.Judgement.{Judgement}
 use Rattle.objects.specs.Objects.{Object, objectWith, objectAt}
 use Rattle.runs.specs.Run.{stateAt, lowestWaiting, fault, noFault, verdictOf}
 use Rattle.objects.specs.Recorded.{objectRecorded, objectsRecorded, Spotted, Holds, stallsAt}
-use Rattle.runs.specs.Starts.{waitVerdict, startVerdict, waitingAt, unfinishedAt, nearestOf, FinishedTo, SoundCursors, Judges}
+use Rattle.runs.specs.Starts.{waitVerdict, startVerdict, waitingAt, nearestOf, SoundCursors, Judges}
 
 pub nearest-last : (c : Cursors) (k : ℕ) → c .last .object ≤ k → c .last ≡ nearestOf c k
 unfolding nearestOf
@@ -52,56 +53,59 @@ module _ (d : List ℕ) (n : ℕ) (states : List ℕ) (c : Cursors) (k : ℕ) (s
         go true q = leb-true (c .last .object) k q
         go false q = first-before
 
--- rows 24 and 25: w is the lowest in state 0, t says whether 24 holds
+-- rows 24 and 25: b says whether the object of record own stalls, and w is the lowest in state 0
 and-and : (a b c : Bool) → (a && b) && c ≡ a && b && c
 and-and true b c = refl
 and-and false b c = refl
 
-min-below : (w k : ℕ) → ltb (min w k) k ≡ ltb w k
-min-below w k = go (ltb w k) refl
-  where
-    go : (t : Bool) → ltb w k ≡ t → ltb (min w k) k ≡ ltb w k
-    go true e = let l : w < k = ltb-true w k e in let m : min w k ≡ w = omega arith in ap (λ (x : ℕ). ltb x k) m
-    go false e = let l : k ≤ w = ltb-false w k e in let m : k ≤ min w k = omega arith in le-ltb (min w k) k m ∙ sym e
-
-pub stalled-on : (w k : ℕ) (s t : Bool) → w < k → t ≡ s → t ≡ (s && ltb w k)
-stalled-on w k true t h e = e ∙ sym (lt-ltb w k h)
-stalled-on w k false t h e = e
-
-pub stalled-off : (w k : ℕ) (s : Bool) → k ≤ w → false ≡ (s && ltb w k)
-stalled-off w k true h = sym (le-ltb w k h)
-stalled-off w k false h = refl
-
-pub stalled-before : (w k : ℕ) (s t : Bool) → t ≡ (s && ltb w k) → t ≡ true → w < k
-stalled-before w k s t e q = ltb-true w k (and-right s (ltb w k) (sym e ∙ q))
-
-module _ (d : List ℕ) (n : ℕ) (states : List ℕ) (k own w : ℕ) (t : Bool) (hk : Holds d n k own) (ew : min w k ≡ lowestWaiting states k) (et : t ≡ (stallsAt d own && ltb w k)) where
+module _ (d : List ℕ) (n : ℕ) (states : List ℕ) (k own : ℕ) (b : Bool) (hk : Holds d n k own) (eb : b ≡ stallsAt d own) where
   abbrev objects : List Object
   objects = objectsRecorded d n
 
-  row-24 : t ≡ (objectAt objects k .uses && eqb (objectAt objects k .type) 0 && ltb (lowestWaiting states k) k)
+  abbrev row24 : Bool
+  row24 = objectAt objects k .uses && eqb (objectAt objects k .type) 0 && ltb (lowestWaiting states k) k
+
+  row-24 : row24 ≡ b && ltb (lowestWaiting states k) k
   unfolding stallsAt objectRecorded objectWith
   row-24 =
-      et
-      ∙ ap₂ (λ (o : Object) (b : Bool). (o .uses && eqb (o .type) 0) && b) (sym (hk .object)) (sym (min-below w k) ∙ ap (λ (x : ℕ). ltb x k) ew)
-      ∙ and-and (objectAt objects k .uses) (eqb (objectAt objects k .type) 0) (ltb (lowestWaiting states k) k)
+      sym (and-and (objectAt objects k .uses) (eqb (objectAt objects k .type) 0) (ltb (lowestWaiting states k) k))
+      ∙ ap (λ (t : Bool). t && ltb (lowestWaiting states k) k) (ap (λ (o : Object). o .uses && eqb (o .type) 0) (hk .object) ∙ sym eb)
 
-  pub start-24 : t ≡ true → fault 24 w 0 ≡ startVerdict objects states k
+  off-24 : (v : Verdict) → row24 ≡ false → v ≡ waitVerdict objects states k → v ≡ startVerdict objects states k
   unfolding startVerdict
-  start-24 q =
-      let l = stalled-before w k (stallsAt d own) t et q in
-      let m : w ≡ min w k = omega arith in
-      ap (λ (x : ℕ). fault 24 x 0) (m ∙ ew)
-      ∙ ap (λ (b : Bool). cond b (fault 24 (lowestWaiting states k) 0) (waitVerdict objects states k)) (sym (sym row-24 ∙ q))
+  off-24 v q e = e ∙ ap (λ (t : Bool). cond t (fault 24 (lowestWaiting states k) 0) (waitVerdict objects states k)) (sym q)
 
-  pub start-25 : (v : Verdict) → t ≡ false → v ≡ waitVerdict objects states k → v ≡ startVerdict objects states k
-  unfolding startVerdict
-  start-25 v q e = e ∙ ap (λ (b : Bool). cond b (fault 24 (lowestWaiting states k) 0) (waitVerdict objects states k)) (sym (sym row-24 ∙ q))
+  pub start-unstalled : (v : Verdict) → b ≡ false → v ≡ waitVerdict objects states k → v ≡ startVerdict objects states k
+  start-unstalled v q e = off-24 v (row-24 ∙ ap (λ (t : Bool). t && ltb (lowestWaiting states k) k) q) e
+
+  module _ (w : ℕ) (q : b ≡ true) (ew : min w k ≡ lowestWaiting states k) where
+    pub start-24 : w < k → fault 24 w 0 ≡ startVerdict objects states k
+    unfolding startVerdict
+    start-24 l =
+        let m : lowestWaiting states k ≡ w = omega arith in
+        let t = row-24 ∙ ap₂ (λ (x : Bool) (y : ℕ). x && ltb y k) q m ∙ lt-ltb w k l in
+        ap (λ (x : ℕ). fault 24 x 0) (sym m) ∙ ap (λ (x : Bool). cond x (fault 24 (lowestWaiting states k) 0) (waitVerdict objects states k)) (sym t)
+
+    pub start-25 : (v : Verdict) → k ≤ w → v ≡ waitVerdict objects states k → v ≡ startVerdict objects states k
+    start-25 v l e =
+        let m : k ≤ lowestWaiting states k = omega arith in
+        off-24 v (row-24 ∙ ap₂ _&&_ q (le-ltb (lowestWaiting states k) k m)) e
 
 -- where the next start goes on
-pub cursors-sound : (d : List ℕ) (n : ℕ) (states : List ℕ) (w k own : ℕ) (u : Spot) → NoneBelow (waitingAt states) w → FinishedTo d n states k u → Holds d n k own
-    → SoundCursors d n states (record { waiting = w; unfinished = u; last = record { object = k; at = own } })
-cursors-sound d n states w k own u a f h = record { started = a; finished = f .finished; first = f .spot; latest = h .spot }
+module _ (d : List ℕ) (n : ℕ) (states : List ℕ) (c x : Cursors) (h : SoundCursors d n states c) where
+  pub started-before : (w k own : ℕ) → x ≡ record { waiting = w; unfinished = c .unfinished; last = record { object = k; at = own }; crossed = c .crossed }
+      → c .unfinished .object ≤ k → x .unfinished .object ≤ k
+  started-before w k own e l = subst (λ (y : Cursors). y .unfinished .object ≤ k) (sym e) l
+
+  pub started-sound : (w k own : ℕ) → x ≡ record { waiting = w; unfinished = c .unfinished; last = record { object = k; at = own }; crossed = c .crossed }
+      → NoneBelow (waitingAt states) w → Holds d n k own → SoundCursors d n states x
+  started-sound w k own e off hk =
+      subst (SoundCursors d n states) (sym e) (record { started = off; finished = h .finished; first = h .first; latest = hk .spot; crossed = h .crossed })
+
+  pub searched-sound : (u at : ℕ) (s : Stretch) → x ≡ record { waiting = c .waiting; unfinished = record { object = u; at = at }; last = c .last; crossed = s }
+      → NoneBelow (unfinishedAt states) u → Holds d n u at → Crossed d states s → SoundCursors d n states x
+  searched-sound u at s e off hu k =
+      subst (SoundCursors d n states) (sym e) (record { started = h .started; finished = off; first = hu .spot; latest = h .latest; crossed = k })
 
 -- the rows of an event e: N is the number of objects, s the state of its object
 module _ (objects : List Object) (states : List ℕ) (e N : ℕ) (en : N ≡ length objects) where

@@ -11,7 +11,8 @@ use Rattle.laws.specs.Find.{NoneBelow}
 use Rattle.objects.specs.declared.Candidate.{Candidate}
 use Rattle.objects.specs.declared.Spot.{Spot}
 use Rattle.objects.specs.Objects.{Object, objectAt}
-use Rattle.objects.specs.Recorded.{Records, objectsRecorded, Spotted, deltaTo}
+use Rattle.objects.specs.Recorded.{wordAt, Records, Numbered, objectsRecorded, Spotted, deltaTo}
+use Rattle.awaited.specs.Search.{unfinishedAt, Crossed}
 use Rattle.runs.specs.declared.Verdict.{Verdict}
 use Rattle.runs.specs.declared.Cursors.{Cursors}
 use Rattle.runs.specs.declared.Judgement.{Judgement}
@@ -28,42 +29,47 @@ startVerdict objects states k =
     let o = objectAt objects k in
     cond (o .uses && eqb (o .type) 0 && ltb j k) (fault 24 j 0) (waitVerdict objects states k)
 
--- is object j in state 0, is it unfinished?
+-- is object j in state 0?
 abbrev pub waitingAt : List ℕ → ℕ → Bool
 waitingAt states j = waiting (stateAt states j)
 
-abbrev pub unfinishedAt : List ℕ → ℕ → Bool
-unfinishedAt states j = unfinished (stateAt states j)
-
--- the lowest delta of a candidate at the object of record r, which is in a state: 8 where it is finished
-unfoldable pub deltaIn : List ℕ → Candidate → ℕ → ℕ → ℕ
-deltaIn d c r state = cond (eqb state 2) 8 (deltaTo d c r)
+-- what 25 names for the candidate of record own, where the first record awaited is r
+unfoldable pub namedAt : List ℕ → Candidate → ℕ → ℕ → Verdict
+namedAt d c own r = cond (eqb r own) noFault (fault 25 (wordAt d r 15) (deltaTo d c r))
 
 -- the records hold so many objects, and each has a state byte
 pub record Running (d : List ℕ) (n objects : ℕ) (states : List ℕ) : Type 0 where
   pub records : Records d n
+  pub numbered : Numbered d n
   pub count : objects ≡ length (objectsRecorded d n)
   pub room : objects ≤ length states
 
 -- object k is one of them
 pub record Known (d : List ℕ) (n : ℕ) (states : List ℕ) (k : ℕ) : Type 0 where
   pub records : Records d n
+  pub numbered : Numbered d n
   pub object : k < length (objectsRecorded d n)
   pub room : length (objectsRecorded d n) ≤ length states
 
--- a spot at or before object k, below which every object is finished
-pub record FinishedTo (d : List ℕ) (n : ℕ) (states : List ℕ) (k : ℕ) (s : Spot) : Type 0 where
-  pub spot : Spotted d n (s .object) (s .at)
-  pub finished : NoneBelow (unfinishedAt states) (s .object)
-  pub before : s .object ≤ k
-
 -- States only grow, so that a search goes on where the last one stopped: no object below the first cursor is in state 0, every one below
--- the second is finished, and the second and third are found in the records.
+-- the second is finished, the second and third are found in the records, and the stretch crossed last still has no unfinished object's
+-- record.
 pub record SoundCursors (d : List ℕ) (n : ℕ) (states : List ℕ) (c : Cursors) : Type 0 where
   pub started : NoneBelow (waitingAt states) (c .waiting)
   pub finished : NoneBelow (unfinishedAt states) (c .unfinished .object)
   pub first : Spotted d n (c .unfinished .object) (c .unfinished .at)
   pub latest : Spotted d n (c .last .object) (c .last .at)
+  pub crossed : Crossed d states (c .crossed)
+
+-- before the first event
+abbrev pub firstCursors : Cursors
+firstCursors =
+    record {
+      waiting = 0;
+      unfinished = record { object = 0; at = 0 };
+      last = record { object = 0; at = 0 };
+      crossed = record { from = 0; to = 0 };
+    }
 
 -- where the walk to object k starts
 unfoldable pub nearestOf : Cursors → ℕ → Spot

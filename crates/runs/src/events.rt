@@ -4,13 +4,15 @@ ghost use Prim.Native.Nat.{_≤_};
 ghost use lib.ListN.{length};
 ghost use Rattle.words.specs.Dwords.{lent};
 ghost use Rattle.objects.specs.Recorded.{objectsRecorded};
-ghost use Rattle.runs.specs.Run.{fault, verdictOf, stateLeft, runFrom, begun};
-ghost use Rattle.runs.specs.Starts.{Running, SoundCursors, Judges};
+ghost use Rattle.runs.specs.Run.{verdictOf, stateLeft, runFrom, begun};
+ghost use Rattle.runs.specs.Starts.{Running, SoundCursors, firstCursors, Judges};
 use crate::Cursors;
 use crate::Judgement;
 use crate::RunEnd;
 use crate::Verdict;
 use crate::starts::start;
+use crate::starts::unnamed;
+use awaited::Stretch;
 use objects::Spot;
 use words::held;
 use words::word;
@@ -24,20 +26,6 @@ pub fn begin(states: &mut [u8], n: usize)
     while i < n {
         states[i] = 0;
         i += 1;
-    }
-}
-
-// A verdict that names no object, or none at all.
-fn unnamed(number: u32, cursors: Cursors) -> Judgement
-    ensures { λ r. ⌜ r ≡ record { verdict = fault number 0 0; cursors = cursors } ⌝ }
-{
-    Judgement {
-        verdict: Verdict {
-            number,
-            object: 0,
-            delta: 0,
-        },
-        cursors,
     }
 }
 
@@ -81,6 +69,18 @@ fn state_left(e: u32) -> u8
     2
 }
 
+// The cursors before the first event.
+fn at_first() -> Cursors
+    ensures { λ c. ⌜ c ≡ firstCursors ⌝ }
+{
+    Cursors {
+        waiting: 0,
+        unfinished: Spot { object: 0, at: 0 },
+        last: Spot { object: 0, at: 0 },
+        crossed: Stretch { from: 0, to: 0 },
+    }
+}
+
 // The events of a run, with the states as they have begun.
 pub fn run(
     rd: &[u32],
@@ -97,11 +97,7 @@ pub fn run(
 {
     let events = held(ed, eb);
     let mut i: usize = 0;
-    let mut c = Cursors {
-        waiting: 0,
-        unfinished: Spot { object: 0, at: 0 },
-        last: Spot { object: 0, at: 0 },
-    };
+    let mut c = at_first();
     while i < events {
         let e = word(ed, eb, i);
         let j = judge(rd, rb, n, objects, states, e, c);

@@ -1,4 +1,5 @@
 // A run: which of its events is the first bad one, and the states that it leaves.
+use awaited::Stretch;
 use objects::Spot;
 
 pub mod events;
@@ -17,12 +18,13 @@ pub struct RunEnd {
     pub position: usize,
 }
 
-// Where the searches of the next start go on: no object below `waiting` is in state 0, every object below `unfinished` is finished, and
-// `last` was the last to start.
+// Where the searches of the next start go on: no object below `waiting` is in state 0, every object below `unfinished` is finished, `last`
+// was the last to start, and `crossed` is the stretch that was crossed last.
 pub struct Cursors {
     pub waiting: usize,
     pub unfinished: Spot,
     pub last: Spot,
+    pub crossed: Stretch,
 }
 
 // A verdict, and where the next start goes on.

@@ -1,24 +1,26 @@
 // The judge of a start: rows 24 and 25. Below, the records hold the objects, and the state bytes are one for each object or more.
 ghost use mathlib.Core.Path.{_≡_};
-ghost use Prim.Native.Nat.{_≤_, min};
-ghost use mathlib.Core.Bool.{_&&_};
-ghost use lib.Dec.{ltb};
+ghost use Prim.Native.Nat.{_<_, _≤_, min};
 ghost use lib.ListN.{length};
 ghost use Rattle.words.specs.Dwords.{lent};
-ghost use Rattle.laws.specs.Find.{NoneBelow};
-ghost use Rattle.objects.specs.Recorded.{RecordIn, objectsRecorded, Holds, stallsAt};
-ghost use Rattle.runs.specs.Run.{stateAt, lowestWaiting, noFault};
-ghost use Rattle.runs.specs.Starts.{waitVerdict, startVerdict, waitingAt, deltaIn};
-ghost use Rattle.runs.specs.Starts.{Known, FinishedTo, SoundCursors, nearestOf, Judges};
+ghost use Rattle.laws.specs.Find.{findFirst, NoneBelow};
+ghost use Rattle.objects.specs.Recorded.{RecordIn, wordAt, objectsRecorded, Holds};
+ghost use Rattle.awaited.specs.Search.{unfinishedAt};
+ghost use Rattle.runs.specs.Run.{stateAt, lowestWaiting, fault};
+ghost use Rattle.runs.specs.Starts.{waitVerdict, startVerdict, waitingAt, namedAt, Known};
+ghost use Rattle.runs.specs.Starts.{SoundCursors, nearestOf, Judges};
 use crate::Cursors;
 use crate::Judgement;
 use crate::Verdict;
+use awaited::Stretch;
+use awaited::over_records::find;
 use objects::Candidate;
 use objects::Spot;
 use objects::recorded::candidate;
 use objects::recorded::delta_to;
+use objects::recorded::mask;
+use objects::recorded::number;
 use objects::recorded::stalls;
-use objects::walk::object_from;
 use objects::walk::record_of;
 
 // The lowest object below k in state 0, or where the search stopped at k or past it; below `from` there is none.
@@ -36,93 +38,111 @@ fn lowest_waiting(states: &[u8], from: usize, k: usize) -> usize
     j
 }
 
-// The first unfinished object, or k where all below it are finished.
-fn first_unfinished(rd: &[u32], rb: &[u8], n: usize, states: &[u8], from: Spot, k: usize) -> Spot
-    requires { ⌜ Known (lent rd rb) n (now states) k × FinishedTo (lent rd rb) n (now states) k from ⌝ }
-    ensures { λ s. ⌜ FinishedTo (lent (rd .entry) (rb .entry)) n (now (states .entry)) k s ⌝ }
+// The first unfinished object, or k where all below it are finished; below `from` there is none.
+fn first_unfinished(states: &[u8], from: usize, k: usize) -> usize
+    requires { ⌜ (k ≤ length (now states)) × (from ≤ k) × NoneBelow (unfinishedAt (now states)) from ⌝ }
+    ensures { λ j. ⌜ j ≡ findFirst k (unfinishedAt (now (states .entry))) ⌝ }
 {
-    let mut j = from.object;
-    let mut at = from.at;
+    let mut j = from;
     while j < k {
         if states[j] != 2 {
-            return Spot { object: j, at };
+            return j;
         }
-        at = object_from(rd, rb, n, at) + 1;
         j += 1;
     }
-    Spot { object: j, at }
+    j
 }
 
-// The lowest delta of the candidate at the object of record r, which is in a state; 8 where that one is finished.
-fn delta_at(rd: &[u32], rb: &[u8], c: Candidate, r: usize, state: u8) -> u32
-    requires { ⌜ RecordIn (lent rd rb) r ⌝ }
-    ensures { λ i. ⌜ i ≡ deltaIn (lent (rd .entry) (rb .entry)) c r state ⌝ }
+// A verdict that names no object, or none at all.
+pub fn unnamed(number: u32, cursors: Cursors) -> Judgement
+    ensures { λ r. ⌜ r ≡ record { verdict = fault number 0 0; cursors = cursors } ⌝ }
 {
-    if state == 2 {
-        return 8;
+    Judgement {
+        verdict: Verdict {
+            number,
+            object: 0,
+            delta: 0,
+        },
+        cursors,
     }
-    delta_to(rd, rb, c, r)
 }
 
-// No row holds.
-fn nothing_wrong() -> Verdict
-    ensures { λ v. ⌜ v ≡ noFault ⌝ }
+// Row 25 for the candidate of record own, where the search for whom it waits for ended at record r.
+fn named(rd: &[u32], rb: &[u8], c: Candidate, own: usize, r: usize) -> Verdict
+    requires { ⌜ RecordIn (lent rd rb) r × (wordAt (lent rd rb) r 15 < 16384) ⌝ }
+    ensures { λ v. ⌜ v ≡ namedAt (lent (rd .entry) (rb .entry)) c own r ⌝ }
 {
+    if r == own {
+        return Verdict {
+            number: 0,
+            object: 0,
+            delta: 0,
+        };
+    }
     Verdict {
-        number: 0,
-        object: 0,
-        delta: 0,
+        number: 25,
+        object: number(rd, rb, r) as u32,
+        delta: delta_to(rd, rb, c, r),
     }
 }
 
-// Row 25: the lowest object that object k, of record own, waits for. Below the spot all are finished. With no delta in play it waits for
-// nobody.
+// The cursors where object k of record own starts, no object below w being in state 0.
+fn started(c: Cursors, w: usize, k: usize, own: usize) -> Cursors
+    ensures { λ x. ⌜ x
+        ≡ record { waiting = w; unfinished = c .unfinished; last = record { object = k; at = own }; crossed = c .crossed } ⌝ }
+{
+    let unfinished = c.unfinished;
+    let crossed = c.crossed;
+    Cursors {
+        waiting: w,
+        unfinished,
+        last: Spot { object: k, at: own },
+        crossed,
+    }
+}
+
+// The cursors after a search: object u of record `at` is the first unfinished.
+fn searched(c: Cursors, u: usize, at: usize, crossed: Stretch) -> Cursors
+    ensures { λ x. ⌜ x ≡ record { waiting = c .waiting; unfinished = record { object = u; at = at }; last = c .last; crossed = crossed } ⌝ }
+{
+    let last = c.last;
+    Cursors {
+        waiting: c.waiting,
+        unfinished: Spot { object: u, at },
+        last,
+        crossed,
+    }
+}
+
+// Row 25 for object k of record own, which is in state 0. With no delta in play, or with all before it finished, it waits for nobody.
 fn waits(
     rd: &[u32],
     rb: &[u8],
     n: usize,
     states: &[u8],
-    from: Spot,
     k: usize,
     own: usize,
-) -> Verdict
-    requires { ⌜ Known (lent rd rb) n (now states) k × FinishedTo (lent rd rb) n (now states) k from × Holds (lent rd rb) n k own ⌝ }
-    ensures { λ v. ⌜ v ≡ waitVerdict (objectsRecorded (lent (rd .entry) (rb .entry)) n) (now (states .entry)) k ⌝ }
+    c: Cursors,
+) -> Judgement
+    requires { ⌜ Known (lent rd rb) n (now states) k × Holds (lent rd rb) n k own × (c .unfinished .object ≤ k)
+        × SoundCursors (lent rd rb) n (now states) c ⌝ }
+    ensures { λ r. ⌜ Judges (lent (rd .entry) (rb .entry)) n (now (states .entry))
+        (waitVerdict (objectsRecorded (lent (rd .entry) (rb .entry)) n) (now (states .entry)) k) r ⌝ }
 {
-    if from.object == k {
-        return nothing_wrong();
+    if mask(rd, rb, own) == 0 {
+        return unnamed(0, c);
     }
-    let c = candidate(rd, rb, own);
-    if c.mask == 0 {
-        return nothing_wrong();
+    let u = first_unfinished(states, c.unfinished.object, k);
+    if u == k {
+        return unnamed(0, searched(c, k, own, c.crossed));
     }
-    let mut j = from.object;
-    let mut at = from.at;
-    while j < k {
-        let r = object_from(rd, rb, n, at);
-        let i = delta_at(rd, rb, c, r, states[j]);
-        if i < 8 {
-            return Verdict {
-                number: 25,
-                object: j as u32,
-                delta: i,
-            };
-        }
-        at = r + 1;
-        j += 1;
+    let at = record_of(rd, rb, n, c.unfinished, u);
+    let t = candidate(rd, rb, own);
+    let f = find(rd, rb, states, c.crossed, t, at, own);
+    Judgement {
+        verdict: named(rd, rb, t, own, f.at),
+        cursors: searched(c, u, at, f.crossed),
     }
-    nothing_wrong()
-}
-
-// Row 24, where the object of record r is to start: object w, in state 0, is before k.
-fn stalled(rd: &[u32], rb: &[u8], r: usize, w: usize, k: usize) -> bool
-    requires { ⌜ RecordIn (lent rd rb) r ⌝ }
-    ensures { λ t. ⌜ t ≡ (stallsAt (lent (rd .entry) (rb .entry)) r && ltb w k) ⌝ }
-{
-    if w < k {
-        return stalls(rd, rb, r);
-    }
-    false
 }
 
 // The nearest spot before object k, which is in state 0.
@@ -142,25 +162,20 @@ pub fn start(rd: &[u32], rb: &[u8], n: usize, states: &[u8], k: usize, c: Cursor
     ensures { λ r. ⌜ Judges (lent (rd .entry) (rb .entry)) n (now (states .entry))
         (startVerdict (objectsRecorded (lent (rd .entry) (rb .entry)) n) (now (states .entry)) k) r ⌝ }
 {
-    let w = lowest_waiting(states, c.waiting, k);
     let own = record_of(rd, rb, n, nearest(c, k), k);
-    if stalled(rd, rb, own, w, k) {
-        return Judgement {
-            verdict: Verdict {
-                number: 24,
-                object: w as u32,
-                delta: 0,
-            },
-            cursors: c,
-        };
+    let mut w = c.waiting;
+    if stalls(rd, rb, own) {
+        w = lowest_waiting(states, w, k);
+        if w < k {
+            return Judgement {
+                verdict: Verdict {
+                    number: 24,
+                    object: w as u32,
+                    delta: 0,
+                },
+                cursors: c,
+            };
+        }
     }
-    let u = first_unfinished(rd, rb, n, states, c.unfinished, k);
-    Judgement {
-        verdict: waits(rd, rb, n, states, u, k, own),
-        cursors: Cursors {
-            waiting: w,
-            unfinished: u,
-            last: Spot { object: k, at: own },
-        },
-    }
+    waits(rd, rb, n, states, k, own, started(c, w, k, own))
 }

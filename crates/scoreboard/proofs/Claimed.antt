@@ -20,7 +20,7 @@ use Rattle.runs.specs.declared.Verdict.{Verdict}
 use Rattle.runs.specs.Run.{verdictOf, Ran, begun, ran}
 use Rattle.runs.specs.Waits.{Stalls, Blocks}
 use Rattle.runs.proofs.Waits.{object-eight}
-use Rattle.runs.proofs.Named.{bad-number, unknown, not-waiting, not-running, names-start, stalls, blocks, unnamed}
+use Rattle.runs.proofs.Named.{bad-number, unknown, not-waiting, not-running, names-start, stalls, blocks, no-object, no-delta}
 use Rattle.runs.proofs.Runs.{ran-started, ran-unnamed}
 use Rattle.runs.proofs.Stops.{Stops, stops, ran-past, ran-long}
 use Rattle.scoreboard.specs.Answers.{objectsIn, ranAnswer, Result, refusedResult, orderOf, bytesOrderOf}
@@ -69,7 +69,8 @@ module _ (capacity : ℕ) (batch run records states filled : List ℕ) where
         start = λ z. absurd (omega arith);
         stalls = λ z. absurd (omega arith);
         blocks = λ z. absurd (omega arith);
-        unnamed = λ _. (refl, refl);
+        noObject = λ _. refl;
+        noDelta = λ _. refl;
         started = λ g k q n. absurd (no g);
         past = λ i q. refl;
         long = refl;
@@ -129,9 +130,11 @@ module _ (capacity : ℕ) (batch run records states filled : List ℕ) where
           subst⁻¹ (λ (v : Verdict). Blocks objects before (event / 2) (v .object) (v .delta)) (bad-event .1)
           (blocks objects before event (objects-eight cs cs (event / 2)) (number-is ∙ z))
 
-      named-none : r .verdict .number < 24 → (r .verdict .object ≡ 0) × (r .verdict .delta ≡ 0)
-      named-none z =
-          subst⁻¹ (λ (v : Verdict). (v .object ≡ 0) × (v .delta ≡ 0)) (bad-event .1) (unnamed objects before event (subst⁻¹ (λ (n : ℕ). n < 24) number-is z))
+      object-none : r .verdict .number < 24 → r .verdict .object ≡ 0
+      object-none z = subst⁻¹ (λ (v : Verdict). v .object ≡ 0) (bad-event .1) (no-object objects before event (subst⁻¹ (λ (n : ℕ). n < 24) number-is z))
+
+      delta-none : r .verdict .number < 25 → r .verdict .delta ≡ 0
+      delta-none z = subst⁻¹ (λ (v : Verdict). v .delta ≡ 0) (bad-event .1) (no-delta objects before event (subst⁻¹ (λ (n : ℕ). n < 25) number-is z))
 
     -- the number is 0, or that of a bad event
     by-number : {C : Type 0} → (r .verdict .number ≡ 0 → C) → (0 < r .verdict .number → C) → C
@@ -167,7 +170,8 @@ module _ (capacity : ℕ) (batch run records states filled : List ℕ) where
           start = λ z. names-start objects before event (omega (arith, number-is (omega arith)));
           stalls = λ z. named-24 (omega arith) z;
           blocks = λ z. named-25 (omega arith) z;
-          unnamed = λ z. by-number (λ e. ran-unnamed objects run 0 (begun (length objects) states) e) (λ l. named-none l z);
+          noObject = λ z. by-number (λ e. ran-unnamed objects run 0 (begun (length objects) states) e .0) (λ l. object-none l z);
+          noDelta = λ z. by-number (λ e. ran-unnamed objects run 0 (begun (length objects) states) e .1) (λ l. delta-none l z);
           started = λ g k q n. ran-started objects run states k q n;
           past = λ i q. ran-past objects run states i q;
           long = ran-long objects run states room;

@@ -21,8 +21,8 @@ use Rattle.reading.proofs.Counts.{passed-count}
 use Rattle.reading.proofs.Vfes.{under-vfe}
 use Rattle.records.proofs.Slots.{written-length}
 use Rattle.objects.specs.Objects.{Object}
-use Rattle.objects.specs.Recorded.{objectsRecorded}
-use Rattle.objects.proofs.RecordedObjects.{objects-count, recorded-objects}
+use Rattle.objects.specs.Recorded.{Numbered, objectsRecorded}
+use Rattle.objects.proofs.RecordedObjects.{objects-count, recorded-objects, recorded-numbers}
 use Rattle.runs.specs.declared.RunEnd.{RunEnd}
 use Rattle.runs.specs.Run.{Ran, runFrom, begun, ran}
 use Rattle.runs.specs.Starts.{Running}
@@ -60,10 +60,15 @@ module _ (capacity room : ℕ) (b : List ℕ) (w : Scanned) (c d o : ℕ) (ew : 
     recorded-are : objectsRecorded r′ c ≡ objectsIn capacity b
     recorded-are = ap₂ objectsRecorded ef (sym commands-are) ∙ recorded-objects cs r (under-vfe capacity b) room-left
 
+    filled-numbers : Numbered r′ c
+    filled-numbers =
+        subst (λ (x : List ℕ). Numbered x c) (sym ef) (subst (Numbered (recorded set capacity b r)) commands-are (recorded-numbers capacity b r room-left))
+
     filled-running : (s : List ℕ) → o ≤ length s → Running r′ c o s
     filled-running s h =
         record {
           records = record { room = filled-room; limit = filled-limit };
+          numbered = filled-numbers;
           count = sym objects-are ∙ ap length (sym recorded-are);
           room = h;
         }

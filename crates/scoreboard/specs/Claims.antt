@@ -97,8 +97,9 @@ module _ (capacity : ℕ) (batch run records states filled : List ℕ) (decision
     pub stalls : answer .number ≡ 24 → Stalls objects before k (answer .object)
     -- "25 it waits (names the lowest j and the lowest delta at it)"
     pub blocks : answer .number ≡ 25 → Blocks objects before k (answer .object) (answer .delta)
-    -- object and delta are 0 where the number names none
-    pub unnamed : answer .number < 24 → (answer .object ≡ 0) × (answer .delta ≡ 0)
+    -- 24 and 25 alone name an object, and 25 alone a delta: else they are 0
+    pub noObject : answer .number < 24 → answer .object ≡ 0
+    pub noDelta : answer .number < 25 → answer .delta ≡ 0
     -- whoever started neither stalled nor waited then
     pub started : Began → (j : ℕ) → j < length objects → (stateAt (given .states) j ≡ 0 → ⊥)
         → Started objects run 0 (begun (length objects) states) j

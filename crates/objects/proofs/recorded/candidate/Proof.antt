@@ -12,23 +12,17 @@ record-word-requires-2 c κs = search needs
 record-word-requires-3 : tie.Need-record-word-requires-3
 record-word-requires-3 c κs = search needs
 
-record-word-requires-4 : tie.Need-record-word-requires-4
-record-word-requires-4 c κs = search needs
-
-record-word-requires-5 : tie.Need-record-word-requires-5
-record-word-requires-5 c κs = search needs
+mask-requires : tie.Need-mask-requires
+mask-requires c κs = search needs
 
 vfe-word-requires : tie.Need-vfe-word-requires
 vfe-word-requires c κs = search needs
 
-joined-mask-requires : tie.Need-joined-mask-requires
-joined-mask-requires c κs = search needs
-
 vfe-word-requires-2 : tie.Need-vfe-word-requires-2
 vfe-word-requires-2 c κs = search needs
 
-vfe-word-requires-3 : tie.Need-vfe-word-requires-3
-vfe-word-requires-3 c κs = search needs
+corner-requires : tie.Need-corner-requires
+corner-requires c κs = search needs
 
 returns : tie.Need-returns
 returns c = search candidate-is
@@ -40,10 +34,8 @@ candidate-spec =
     record-word-requires
     record-word-requires-2
     record-word-requires-3
-    record-word-requires-4
-    record-word-requires-5
+    mask-requires
     vfe-word-requires
-    joined-mask-requires
     vfe-word-requires-2
-    vfe-word-requires-3
+    corner-requires
     returns)

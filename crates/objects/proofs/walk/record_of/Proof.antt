@@ -1,43 +1,50 @@
 use borrow.Author.Needs.{needs}
+use native.Mathlib.Omega.{arith}
 use Prim.Native.Nat.{_-_, _≤_}
 use Rattle.words.specs.Dwords.{dwordsIn}
-use Rattle.objects.specs.Recorded.{Spotted}
-use Rattle.objects.proofs.Spots.{walk-in, walks}
+use Rattle.objects.specs.Recorded.{objectsBefore}
+use Rattle.objects.proofs.Numbers.{walk-first, walk-in, walk-number, walk-next, walk-there}
 use Rattle.objects.proofs.walk.record_of.Statement.{statement}
 use Rattle.objects.proofs.walk.record_of.Tie as tie
 
 abbrev Inv-loop : tie.InvT-loop
-Inv-loop rd rb n k j₀ at₀ j at = (j ≤ k) × Spotted (dwordsIn rd rb) n j at
+Inv-loop rd rb n k r₀ r = objectsBefore (dwordsIn rd rb) r ≤ k
 
 abbrev μ-loop : tie.MeasureT-loop
-μ-loop rd rb n k j₀ at₀ j at = k - j
+μ-loop rd rb n k r₀ r = n - r
+
+sub-r : tie.Need-sub-r Inv-loop μ-loop
+sub-r c = search needs
+
+add-r : tie.Need-add-r Inv-loop μ-loop
+add-r c =
+    let p = c .before .before .before .before .pre in
+    search (needs, walk-in _ _ _ _ (p .4) (walk-first _ _ _ _ _ (p .4) (p .2) (p .3)))
 
 loop-holds : tie.Need-loop-holds Inv-loop μ-loop
-loop-holds c = (search needs, search needs)
+loop-holds c = search walk-first
 
-object-from-requires : tie.Need-object-from-requires Inv-loop μ-loop
-object-from-requires c κs = search needs
-
-add-at : tie.Need-add-at Inv-loop μ-loop
-add-at c =
-    let l = c .before .before .loop in
+step-to-requires : tie.Need-step-to-requires Inv-loop μ-loop
+step-to-requires c κs =
     let p = c .before .before .before .before .before .pre in
-    search (needs, walk-in _ _ _ _ _ _ (l .inv .1) (p .3) (c .object-from .ensures) (c .before .loop-test .taken))
-
-add-j : tie.Need-add-j Inv-loop μ-loop
-add-j c = search needs
-
-loop-less : tie.Need-loop-less Inv-loop μ-loop
-loop-less c = search needs
-
-loop-again : tie.Need-loop-again Inv-loop μ-loop
-loop-again c = (search needs, search walks)
-
-object-from-requires-2 : tie.Need-object-from-requires-2 Inv-loop μ-loop
-object-from-requires-2 c κs = search needs
+    (search (needs, walk-in _ _ _ _ (p .4) (c .loop .inv)), walk-number _ _ _ _ (p .4) (c .loop .inv) (p .1))
 
 returns : tie.Need-returns Inv-loop μ-loop
-returns c = search walks
+returns c = search walk-there
+
+add-r-2 : tie.Need-add-r-2 Inv-loop μ-loop
+add-r-2 c =
+    let p = c .before .before .before .before .before .before .before .pre in
+    let inv = c .before .before .loop .inv in
+    search (needs, walk-in _ _ _ _ (p .4) (walk-next _ _ _ _ (p .4) inv (p .1) _ (c .before .step-to .ensures)))
+
+loop-less : tie.Need-loop-less Inv-loop μ-loop
+loop-less c =
+    let p = c .before .before .before .before .before .before .before .pre in
+    omega (arith, walk-in _ _ _ _ (p .4) (c .before .before .loop .inv))
+
+loop-again : tie.Need-loop-again Inv-loop μ-loop
+loop-again c = search walk-next
 
 pub record-of-spec : {M : Type 1} → statement M
 record-of-spec =
@@ -45,11 +52,11 @@ record-of-spec =
     (tie.spec
     Inv-loop
     μ-loop
+    sub-r
+    add-r
     loop-holds
-    object-from-requires
-    add-at
-    add-j
+    step-to-requires
+    returns
+    add-r-2
     loop-less
-    loop-again
-    object-from-requires-2
-    returns)
+    loop-again)

@@ -50,7 +50,7 @@ returns-4 c =
     unnamed-judges _ _ _ _ _ _ _ e (p .1) (row-22 _ _ _ _ (p .0 .count) _ (c .before .before .before .before .if1 .left) refl (c .before .before .before .if2 .left) (c .before .if4 .taken))
 
 start-requires : tie.Need-start-requires
-start-requires c κs = let p = c .before .before .before .before .before .before .before .pre in (record { records = p .0 .records; object = search needs; room = search needs }, search needs, p .1)
+start-requires c κs = let p = c .before .before .before .before .before .before .before .pre in (record { records = p .0 .records; numbered = p .0 .numbered; object = search needs; room = search needs }, search needs, p .1)
 
 returns-5 : tie.Need-returns-5
 returns-5 c = record { verdict = search (row-start, c .before .before .before .if2 .left, c .start .ensures .verdict); cursors = c .start .ensures .cursors }

@@ -22,6 +22,9 @@ abbrev μ-loop : tie.MeasureT-loop
 held-requires : tie.Need-held-requires Inv-loop μ-loop
 held-requires c κs = search needs
 
+at-first-requires : tie.Need-at-first-requires Inv-loop μ-loop
+at-first-requires c κs = search needs
+
 loop-holds : tie.Need-loop-holds Inv-loop μ-loop
 loop-holds c = (search needs, search turns, search turns)
 
@@ -30,8 +33,8 @@ word-requires c κs = search needs
 
 judge-requires : tie.Need-judge-requires Inv-loop μ-loop
 judge-requires c κs =
-    let p = c .before .before .before .before .before .before .before .before .before .before .pre in
-    (record { records = p .records; count = p .count; room = search needs }, c .before .before .before .loop .inv .1)
+    let p = c .before .before .before .before .before .before .before .before .before .before .before .pre in
+    (record { records = p .records; numbered = p .numbered; count = p .count; room = search needs }, c .before .before .before .loop .inv .1)
 
 same-length : tie.Need-same-length Inv-loop μ-loop
 same-length c = search needs
@@ -46,7 +49,9 @@ cast-states : tie.Need-cast-states Inv-loop μ-loop
 cast-states c = search needs
 
 slice-write-states : tie.Need-slice-write-states Inv-loop μ-loop
-slice-write-states c = search (needs, object-known)
+slice-write-states c =
+    let p = c .before .before .before .before .before .before .before .before .before .before .before .before .before .before .before .before .pre in
+    object-known _ _ _ _ (c .before .before .before .before .judge .ensures .verdict) _ _ (p .count) (search (needs, p .room)) (c .before .if1 .left)
 
 add-i : tie.Need-add-i Inv-loop μ-loop
 add-i c = search needs
@@ -70,6 +75,7 @@ run-spec =
     Inv-loop
     μ-loop
     held-requires
+    at-first-requires
     loop-holds
     word-requires
     judge-requires

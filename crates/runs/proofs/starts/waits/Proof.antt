@@ -1,103 +1,88 @@
-use borrow.Author.Needs.{needs}
 use native.Mathlib.Omega.{arith}
-use Prim.Native.Nat.{_-_, _≤_}
-use Rattle.words.specs.Dwords.{dwordsIn}
-use Rattle.laws.specs.Find.{NoneBelow}
-use Rattle.runs.specs.Run.{waitsFor}
-use Rattle.objects.specs.Recorded.{objectsRecorded, Spotted}
-use Rattle.objects.proofs.Spots.{walk-in, walks}
-use Rattle.runs.proofs.Searches.{known-small, waits-nobody, waits-from, waits-none, waits-laws}
+use mathlib.Core.Path.{refl, sym, _∙_}
+use Rattle.awaited.proofs.Searched.{find-least}
+use Rattle.runs.proofs.Awaited.{states-in, first-most, first-off, nobody-left, search-from, search-in, search-small, search-verdict}
+use Rattle.runs.proofs.Searches.{waits-nobody}
+use Rattle.runs.proofs.StartRows.{searched-sound, unnamed-judges}
+use borrow.Author.Needs.{needs}
 use Rattle.runs.proofs.starts.waits.Statement.{statement}
 use Rattle.runs.proofs.starts.waits.Tie as tie
 
-abbrev Inv-loop : tie.InvT-loop
-Inv-loop rd rb n states k own c j₀ at₀ j at = (j ≤ k) × Spotted (dwordsIn rd rb) n j at × NoneBelow (waitsFor (objectsRecorded (dwordsIn rd rb) n) states k) j
+mask-requires : tie.Need-mask-requires
+mask-requires c κs = search needs
 
-abbrev μ-loop : tie.MeasureT-loop
-μ-loop rd rb n states k own c j₀ at₀ j at = k - j
+unnamed-requires : tie.Need-unnamed-requires
+unnamed-requires c κs = search needs
 
-nothing-wrong-requires : tie.Need-nothing-wrong-requires Inv-loop μ-loop
-nothing-wrong-requires c κs = search needs
+returns : tie.Need-returns
+returns c = let p = c .before .before .before .before .before .before .pre in unnamed-judges _ _ _ _ _ _ _ (c .unnamed .ensures) (p .3) (waits-nobody _ _ _ _ _ _ (c .before .before .mask .ensures) (p .1) (c .before .if1 .taken) _ refl)
 
-returns : tie.Need-returns Inv-loop μ-loop
-returns c =
-    let b = c .before .before .before .before .before .before in
-    let h : b .args .k ≤ b .args .from .object = omega arith in
-    waits-none _ _ _ (b .args .from .object) _ (waits-from _ _ _ (b .args .from .object) (b .pre .1 .finished)) h (c .nothing-wrong .ensures)
+first-unfinished-requires : tie.Need-first-unfinished-requires
+first-unfinished-requires c κs = search needs
 
-candidate-requires : tie.Need-candidate-requires Inv-loop μ-loop
+searched-requires : tie.Need-searched-requires
+searched-requires c κs = search needs
+
+unnamed-requires-2 : tie.Need-unnamed-requires-2
+unnamed-requires-2 c κs = search needs
+
+returns-2 : tie.Need-returns-2
+returns-2 c =
+    let p = c .before .before .before .before .before .before .before .before .before .pre in
+    let u = c .before .before .before .first-unfinished .ensures in
+    let q = c .before .before .if2 .taken in
+    unnamed-judges _ _ _ _ _ _ _ (c .unnamed2 .ensures)
+    (searched-sound _ _ _ _ _ (p .3) _ _ _ (c .before .searched .ensures) (first-off _ _ _ _ _ (p .0) (p .1) _ (sym q ∙ u)) (p .1) (p .3 .crossed))
+    (nobody-left _ _ _ _ _ (p .0) (p .1) _ u q)
+
+record-of-requires : tie.Need-record-of-requires
+record-of-requires c κs =
+    let p = c .before .before .before .before .before .before .before .pre in
+    let u = c .before .first-unfinished .ensures in
+    (p .0 .records, p .0 .numbered, p .3 .first, omega (arith, u, find-least _ _ _ (p .3 .finished) (p .2)), omega (arith, first-most _ _ _ _ _ (p .0) (p .1) _ u, p .0 .object))
+
+candidate-requires : tie.Need-candidate-requires
 candidate-requires c κs = search needs
 
-nothing-wrong-requires-2 : tie.Need-nothing-wrong-requires-2 Inv-loop μ-loop
-nothing-wrong-requires-2 c κs = search needs
+find-requires : tie.Need-find-requires
+find-requires c κs =
+    let p = c .before .before .before .before .before .before .before .before .before .pre in
+    let u = c .before .before .before .first-unfinished .ensures in
+    let e = c .candidate .ensures in
+    (states-in _ _ _ _ _ (p .0) (p .1), e, omega (arith, p .1 .below, p .0 .records .limit), p .3 .crossed, search-from _ _ _ _ _ (p .0) (p .1) _ e _ _ u (c .before .record-of .ensures))
 
-returns-2 : tie.Need-returns-2 Inv-loop μ-loop
-returns-2 c = search waits-nobody
+named-requires : tie.Need-named-requires
+named-requires c κs =
+    let p = c .before .before .before .before .before .before .before .before .before .before .pre in
+    let e = c .before .candidate .ensures in
+    (search-in _ _ _ _ _ (p .0) (p .1) _ e _ (c .find .ensures .first), search-small _ _ _ _ _ (p .0) (p .1) _ e _ (c .find .ensures .first))
 
-loop-holds : tie.Need-loop-holds Inv-loop μ-loop
-loop-holds c = (search needs, search needs, search waits-laws)
+searched-requires-2 : tie.Need-searched-requires-2
+searched-requires-2 c κs = search needs
 
-object-from-requires : tie.Need-object-from-requires Inv-loop μ-loop
-object-from-requires c κs = search needs
-
-shared-slice-read-delta-at : tie.Need-shared-slice-read-delta-at Inv-loop μ-loop
-shared-slice-read-delta-at c = search needs
-
-delta-at-requires : tie.Need-delta-at-requires Inv-loop μ-loop
-delta-at-requires c κs =
-    let l = c .before .before .before .loop in
+returns-3 : tie.Need-returns-3
+returns-3 c =
     let p = c .before .before .before .before .before .before .before .before .before .before .before .before .pre in
-    search (needs, walk-in _ _ _ _ _ _ (l .inv .1) (p .0 .object) (c .before .object-from .ensures) (c .before .before .loop-test .taken))
-
-cast-t17 : tie.Need-cast-t17 Inv-loop μ-loop
-cast-t17 c =
-    let p = c .before .before .before .before .before .before .before .before .before .before .before .before .before .before .pre in
-    search (needs, known-small _ _ _ _ (p .0))
-
-returns-3 : tie.Need-returns-3 Inv-loop μ-loop
-returns-3 c = search waits-laws
-
-add-at : tie.Need-add-at Inv-loop μ-loop
-add-at c =
-    let l = c .before .before .before .before .before .loop in
-    let p = c .before .before .before .before .before .before .before .before .before .before .before .before .before .before .pre in
-    search (needs, walk-in _ _ _ _ _ _ (l .inv .1) (p .0 .object) (c .before .before .before .object-from .ensures) (c .before .before .before .before .loop-test .taken))
-
-add-j : tie.Need-add-j Inv-loop μ-loop
-add-j c = search needs
-
-loop-less : tie.Need-loop-less Inv-loop μ-loop
-loop-less c = search needs
-
-loop-again : tie.Need-loop-again Inv-loop μ-loop
-loop-again c = (search needs, search walks, search waits-laws)
-
-nothing-wrong-requires-3 : tie.Need-nothing-wrong-requires-3 Inv-loop μ-loop
-nothing-wrong-requires-3 c κs = search needs
-
-returns-4 : tie.Need-returns-4 Inv-loop μ-loop
-returns-4 c = search waits-laws
+    let f = c .before .before .find .ensures in
+    record {
+      verdict = search-verdict _ _ _ _ _ (p .0) (p .1) _ (c .before .before .before .candidate .ensures) _ (f .first) _ (c .before .named .ensures);
+      cursors = searched-sound _ _ _ _ _ (p .3) _ _ _ (c .searched2 .ensures) (first-off _ _ _ _ _ (p .0) (p .1) _ (c .before .before .before .before .before .before .first-unfinished .ensures)) (c .before .before .before .before .record-of .ensures) (f .crossed);
+    }
 
 pub waits-spec : {M : Type 1} → statement M
 waits-spec =
     tie.close
     (tie.spec
-    Inv-loop
-    μ-loop
-    nothing-wrong-requires
+    mask-requires
+    unnamed-requires
     returns
-    candidate-requires
-    nothing-wrong-requires-2
+    first-unfinished-requires
+    searched-requires
+    unnamed-requires-2
     returns-2
-    loop-holds
-    object-from-requires
-    shared-slice-read-delta-at
-    delta-at-requires
-    cast-t17
-    returns-3
-    add-at
-    add-j
-    loop-less
-    loop-again
-    nothing-wrong-requires-3
-    returns-4)
+    record-of-requires
+    candidate-requires
+    find-requires
+    named-requires
+    searched-requires-2
+    returns-3)
