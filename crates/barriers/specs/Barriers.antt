@@ -13,7 +13,8 @@ use Rattle.event.specs.Decision.{Decision}
 use Rattle.event.specs.Groups.{groupOf, waitsOf, bitsWhere, Grouped}
 use Rattle.event.specs.Outcomes.{outcomeOf}
 use Rattle.event.specs.ByKind.{decisionAmong}
-use Rattle.effects.specs.Effects.{bytesAfter, waitsAfter, countsAfter, withAck, CountRoom}
+use Rattle.effects.specs.Effects.{bytesAfter, waitsAfter, withAck}
+use Rattle.effects.specs.Releases.{releasesAfter, ReleaseRoom}
 
 -- a mask for each of the sixteen barriers
 unfoldable pub masks : (ℕ → ℕ) → List ℕ
@@ -45,13 +46,15 @@ pub record Masked (s : Setup) (members waiting : List ℕ) : Type 0 where
   pub own-members : members ≡ memberMasks s
   pub own-waiting : waiting ≡ waitingIn s (waitsIn s waiting)
 
--- What `message` needs: a setup as the header's rows leave it, masks, sixteen barrier bytes, lent buffers as long as row 16 leaves them.
-pub record BarrierRoom (s : Setup) (members waiting bytes registers counts : List ℕ) : Type 0 where
+-- What `message` needs: a setup as the header's rows leave it, its groups, masks, sixteen barrier bytes, registers as long as row 16 leaves
+-- them, and a number of releases for each barrier.
+pub record BarrierRoom (s : Setup) (groups members waiting bytes registers releases : List ℕ) : Type 0 where
   pub grouped : Grouped s
+  pub own-groups : groups ≡ s .groups
   pub masked : Masked s members waiting
   pub sixteen : length bytes ≡ 16
   pub own : length registers ≡ 4096 * s .threads
-  pub room : CountRoom s counts
+  pub room : ReleaseRoom s releases
 
 -- the decision of an event that is no forward, by the masks, and the masks after it
 abbrev pub messageDecision : Head → Setup → List ℕ → Decision
@@ -62,10 +65,10 @@ waitingAfter h s waiting = waitingIn s (waitsAfter (messageDecision h s waiting)
 
 -- What an event that is neither an open, a close nor a forward leaves: its outcome, and each buffer at exit (′) by the same at entry.
 pub record MessageLeft (h : Head) (s : Setup) (outcome : ℕ)
-    (waiting bytes registers counts waiting′ bytes′ registers′ counts′ : List ℕ) : Type 0 where
+    (waiting bytes registers releases waiting′ bytes′ registers′ releases′ : List ℕ) : Type 0 where
   pub its-outcome : outcome ≡ outcomeOf (messageDecision h s waiting)
   pub its-waits : waitsIn s waiting′ ≡ waitsAfter (messageDecision h s waiting) s (waitsIn s waiting)
   pub its-masks : waiting′ ≡ waitingIn s (waitsIn s waiting′)
   pub its-bytes : bytes′ ≡ bytesAfter (messageDecision h s waiting) bytes
   pub its-registers : registers′ ≡ withAck h outcome registers
-  pub its-counts : counts′ ≡ countsAfter (messageDecision h s waiting) s counts
+  pub its-releases : releases′ ≡ releasesAfter (messageDecision h s waiting) releases

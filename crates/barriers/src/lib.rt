@@ -6,10 +6,10 @@ ghost use lib.ListN.{length};
 ghost use Rattle.event.specs.Groups.{Grouped};
 ghost use Rattle.event.specs.Outcomes.{outcomeOf};
 ghost use Rattle.event.specs.ByKind.{decisionAlone};
-ghost use Rattle.effects.specs.Effects.{bytesAfter, countsAfter, CountRoom};
+ghost use Rattle.effects.specs.Effects.{bytesAfter};
+ghost use Rattle.effects.specs.Releases.{releasesAfter, ReleaseRoom};
 ghost use Rattle.barriers.specs.Barriers.{memberMasks, messageDecision, waitingAfter, Masked, BarrierRoom, MessageLeft};
 use effects::buffers::acknowledge;
-use effects::buffers::notify_group;
 use event::Head;
 use event::Setup;
 use event::form::is_malformed;
@@ -50,29 +50,37 @@ pub fn members(setup: Setup) -> [u32; 16]
     members
 }
 
-// A barrier message: it waits, or makes its group whole, which is then released.
-fn arrive(h: Head, setup: Setup, members: &[u32], waiting: &mut [u32], counts: &mut [u32]) -> u8
-    requires { ⌜ (h .kind ≡ 4) × (Grouped setup) × (Masked setup (now members) (now waiting)) × (CountRoom setup (now counts)) ⌝ }
+// A barrier message: it waits, or makes its group whole, which is then released. The groups are the setup's, lent: a copy of them for each
+// message would be made in memory.
+fn arrive(
+    h: Head,
+    setup: Setup,
+    groups: &[u8],
+    members: &[u32],
+    waiting: &mut [u32],
+    releases: &mut [u32],
+) -> u8
+    requires { ⌜ (h .kind ≡ 4) × (Grouped setup) × (now groups ≡ setup .groups) × (Masked setup (now members) (now waiting))
+        × (ReleaseRoom setup (now releases)) ⌝ }
     ensures { λ r. ⌜ (r ≡ outcomeOf (messageDecision h setup (now (waiting .entry))))
         × (now (waiting .exit) ≡ waitingAfter h setup (now (waiting .entry)))
-        × (now (counts .exit) ≡ countsAfter (messageDecision h setup (now (waiting .entry))) setup (now (counts .entry))) ⌝ }
+        × (now (releases .exit) ≡ releasesAfter (messageDecision h setup (now (waiting .entry))) (now (releases .entry))) ⌝ }
 {
     if is_malformed(h, setup.threads) {
         return 31;
     }
     let sender = h.sender;
-    let groups = setup.groups;
     let group = groups[sender];
-    if group == 255 {
+    if 15 < group {
         return 38;
     }
-    let b = (group % 16) as usize;
+    let b = group as usize;
     if has_bit(waiting[b], sender) {
         return 39;
     }
     let arrived = waiting[b] + bit(sender);
     if arrived == members[b] {
-        notify_group(setup, group, counts);
+        releases[b] = releases[b] + 1;
         waiting[b] = 0;
         return 0;
     }
@@ -99,19 +107,20 @@ fn update(h: Head, setup: Setup, bytes: &mut [u32]) -> u8
 pub fn message(
     h: Head,
     setup: Setup,
+    groups: &[u8],
     members: &[u32],
     waiting: &mut [u32],
     bytes: &mut [u32],
     registers: &mut [u8],
-    counts: &mut [u32],
+    releases: &mut [u32],
 ) -> u8
-    requires { ⌜ (2 < h .kind) × (BarrierRoom setup (now members) (now waiting) (now bytes) (now registers) (now counts)) ⌝ }
+    requires { ⌜ (2 < h .kind) × (BarrierRoom setup (now groups) (now members) (now waiting) (now bytes) (now registers) (now releases)) ⌝ }
     ensures { λ r. ⌜ MessageLeft h setup r
-        (now (waiting .entry)) (now (bytes .entry)) (now (registers .entry)) (now (counts .entry))
-        (now (waiting .exit)) (now (bytes .exit)) (now (registers .exit)) (now (counts .exit)) ⌝ }
+        (now (waiting .entry)) (now (bytes .entry)) (now (registers .entry)) (now (releases .entry))
+        (now (waiting .exit)) (now (bytes .exit)) (now (registers .exit)) (now (releases .exit)) ⌝ }
 {
     if h.kind == 4 {
-        let number = arrive(h, setup, members, waiting, counts);
+        let number = arrive(h, setup, groups, members, waiting, releases);
         acknowledge(h, number, registers);
         return number;
     }

@@ -1,9 +1,8 @@
 -- Counts: who gets one N0 by a release, and a forward's notification. Assumes nothing.
-use mathlib.Core.Path.{_≡_, refl, sym, ap, _∙_}
+use mathlib.Core.Path.{_≡_, refl, ap, _∙_}
 use mathlib.Core.Bool.{Bool, true, false, cond}
 use mathlib.Core.List.{List}
 use Prim.Native.Nat.{ℕ, zero, suc, _+_, _*_, _≤_}
-use native.Mathlib.Numerals.{add-one}
 use native.Mathlib.Omega.{arith}
 use lib.Dec.{eqb}
 use lib.ListN.{length, getD, set, length-set}
@@ -38,11 +37,6 @@ module _ (groups : List ℕ) (g : ℕ) (cs : List ℕ) where
   unfolding overMembers
   groupNotified-long zero = refl
   groupNotified-long (suc n) = as-long (eqb (groupOf groups n) g) (groupNotified n groups g cs) (2 * n) ∙ groupNotified-long n
-
-  -- a turn of the loop that pays
-  pub groupNotified-turn : (t : ℕ) → cond (eqb (groupOf groups t) g) (oneMore (groupNotified t groups g cs) (2 * t)) (groupNotified t groups g cs) ≡ groupNotified (t + 1) groups g cs
-  unfolding overMembers
-  groupNotified-turn t = ap (λ (n : ℕ). groupNotified n groups g cs) (sym (add-one t))
 
   -- who has not had its turn has what it had
   pub groupNotified-later : (n k : ℕ) → 2 * n ≤ k → getD (groupNotified n groups g cs) k 0 ≡ getD cs k 0

@@ -5,13 +5,14 @@ use mathlib.Core.List.{List}
 use Prim.Native.Nat.{ℕ, _≤_, _<_}
 use native.Mathlib.Omega.{arith}
 use lib.Dec.{eqb}
-use lib.ListN.{set}
+use lib.ListN.{length, set}
 use borrow.Author.Tests.{eqb-true, eqb-false}
 use Rattle.laws.proofs.Choices.{by-test}
 use Rattle.event.specs.declared.Head.{Head}
 use Rattle.event.specs.declared.Setup.{Setup}
 use Rattle.event.specs.declared.Gateway.{Gateway}
-use Rattle.event.specs.Decision.{Decision}
+use Rattle.event.specs.Decision.{Decision, Release}
+use Rattle.event.specs.Groups.{Grouped}
 use Rattle.event.specs.Outcomes.{gatewayLeft, decisionOf, outcomeOf}
 use Rattle.event.proofs.Decisions.{by-open-or-close, by-forward, by-wait, by-release, by-update}
 use Rattle.event.proofs.Formed.{formed-sender}
@@ -19,6 +20,8 @@ use Rattle.event.proofs.Reach.{formed-of}
 use Rattle.event.proofs.Sources.{Source, decision-source}
 use Rattle.event.proofs.Passed.{passed-as}
 use Rattle.effects.specs.Effects.{gatewaysAfter, bytesAfter, waitsAfter, countsAfter, forwarded}
+use Rattle.effects.specs.Releases.{releasesAfter, countsIn}
+use Rattle.effects.proofs.ReleaseLaws.{counted-releases}
 
 module _ (h : Head) (s : Setup) (g : Gateway) (ws : List Bool) where
   abbrev d : Decision
@@ -44,6 +47,24 @@ module _ (h : Head) (s : Setup) (g : Gateway) (ws : List Bool) where
   counts-kept n m cs =
       by-forward (λ (x : List ℕ). cs ≡ x) d _ _ (λ r a c y e. absurd (n (from e .kind)))
       (by-release (λ (x : List ℕ). cs ≡ x) d _ cs (λ b e. absurd (m (from e .1 .kind))) refl)
+
+  pub releases-kept : (k ≡ 4 → ⊥) → (ns : List ℕ) → ns ≡ releasesAfter d ns
+  unfolding Source releasesAfter
+  releases-kept n ns = by-release (λ (x : List ℕ). ns ≡ x) d _ ns (λ b e. absurd (n (from e .1 .kind))) refl
+
+  -- a release is of a barrier
+  below : Grouped s → (b : ℕ) → d ≡ Release b → b < 16
+  unfolding Source outcomeOf
+  below grouped b e =
+      let q = from e in
+      let z : outcomeOf d ≡ 0 = ap outcomeOf e in
+      omega (arith, q .0, grouped .known (h .sender) (formed-sender k h (s .threads) (formed-of h s g ws (λ y. omega arith))) (q .1 .group))
+
+  -- what is no forward adds by its barrier's releases what it adds to the counts
+  pub releases-counted : (k ≡ 2 → ⊥) → Grouped s → (ns cs : List ℕ) → length ns ≡ 16 → countsIn s (releasesAfter d ns) cs ≡ countsAfter d s (countsIn s ns cs)
+  unfolding Source
+  releases-counted n grouped ns cs long =
+      counted-releases s ns cs d (λ r a c m e. n (from e .kind)) (λ b e. omega (arith, below grouped b e))
 
   pub waits-kept : (k ≡ 4 → ⊥) → (waits : List Bool) → waits ≡ waitsAfter d s waits
   unfolding Source waitsAfter

@@ -1,4 +1,5 @@
 pub mod CountLaws
+pub mod ReleaseLaws
 pub mod Acks
 pub mod Refused
 pub mod Forwarded

@@ -4,7 +4,8 @@ ghost use mathlib.Core.Bool.{true, cond};
 ghost use Prim.Native.Nat.{ℕ, _+_, _*_, _≤_, _<_};
 ghost use lib.ListN.{length, getD};
 ghost use Rattle.event.specs.Groups.{Grouped};
-ghost use Rattle.effects.specs.Effects.{oneMore, notified, groupNotified, acknowledged, ackPlace, withAck, CountRoom};
+ghost use Rattle.effects.specs.Effects.{oneMore, notified, acknowledged, ackPlace, withAck, CountRoom};
+ghost use Rattle.effects.specs.Releases.{countsIn};
 use event::Head;
 use event::Setup;
 use event::form::counted_ack;
@@ -36,16 +37,28 @@ pub fn notify(counts: &mut [u32], to: usize, notify: u32)
     one_more_if(counts, 2 * to + 1, notify == 2);
 }
 
-// Each member of a group gets one N0.
-pub fn notify_group(setup: Setup, group: u8, counts: &mut [u32])
-    requires { ⌜ (Grouped setup) × (CountRoom setup (now counts)) ⌝ }
-    ensures { λ _. ⌜ now (counts .exit) ≡ groupNotified (setup .threads) (setup .groups) group (now (counts .entry)) ⌝ }
+// A group's releases; a thread without a group has none.
+fn releases_of(releases: &[u32], group: u8) -> u32
+    requires { ⌜ length (now releases) ≡ 16 ⌝ }
+    ensures { λ r. ⌜ r ≡ getD (now (releases .entry)) group 0 ⌝ }
+{
+    if group < 16 {
+        let b = group as usize;
+        return releases[b];
+    }
+    0
+}
+
+// Each thread's N0 gets the releases of its barrier, once: at each release it would be a loop over the threads.
+pub fn settle(setup: Setup, releases: &[u32], counts: &mut [u32])
+    requires { ⌜ (Grouped setup) × (length (now releases) ≡ 16) × (CountRoom setup (countsIn setup (now releases) (now counts))) ⌝ }
+    ensures { λ _. ⌜ now (counts .exit) ≡ countsIn setup (now (releases .entry)) (now (counts .entry)) ⌝ }
 {
     let threads = setup.threads;
     let groups = setup.groups;
     let mut t = 0;
     while t < threads {
-        one_more_if(counts, 2 * t, groups[t] == group);
+        counts[2 * t] = counts[2 * t] + releases_of(releases, groups[t]);
         t += 1;
     }
 }

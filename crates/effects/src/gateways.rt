@@ -54,10 +54,11 @@ pub fn open_or_close(h: Head, setup: Setup, words: &mut [u32], registers: &mut [
         × (now (registers .exit) ≡ withAck h r (now (registers .entry))) ⌝ }
 {
     let number = gateway_outcome(h, setup);
-    acknowledge(h, number, registers);
     if number != 0 {
+        acknowledge(h, number, registers);
         return number;
     }
     set_gateway(words, h.sender, gateway_left(h));
+    acknowledge(h, 0, registers);
     0
 }

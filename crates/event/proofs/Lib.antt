@@ -1,6 +1,7 @@
 pub mod Tests
 pub mod Taken
 pub mod Decisions
+pub mod Joined
 pub mod Formed
 pub mod Groups
 pub mod Waiting

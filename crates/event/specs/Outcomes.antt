@@ -85,6 +85,13 @@ openMalformed k h = opens k h && anyOf (openFaults h)
 unfoldable pub ackMalformed : ℕ → Head → Bool
 ackMalformed k h = countedAck k h && ltb 127 (h .register)
 
+-- those of the faults that ask for no kind, which the code tests as one
+abbrev pub commonFaults : Head → ℕ → List Bool
+commonFaults h threads = leb threads (h .sender) ∷ not (eqb (h .stray) 0) ∷ not (eqb (h .padding) 0) ∷ []
+
+unfoldable pub commonMalformed : Head → ℕ → Bool
+commonMalformed h threads = anyOf (commonFaults h threads)
+
 abbrev pub faults : ℕ → Head → ℕ → List Bool
 faults k h threads =
     -- "kind over 6; sender not a thread; stray flag"

@@ -1,6 +1,9 @@
 // Outcome 31: is an event malformed?
 ghost use mathlib.Core.Path.{_≡_};
-ghost use Rattle.event.specs.Outcomes.{countedAck, endMalformed, forwardMalformed, openMalformed, ackMalformed, malformed};
+ghost use mathlib.Core.Bool.{not, cond};
+ghost use lib.Dec.{eqb};
+ghost use Rattle.event.specs.Outcomes.{Unserved, countedAck, commonMalformed, endMalformed, forwardMalformed, openMalformed};
+ghost use Rattle.event.specs.Outcomes.{ackMalformed, malformed};
 use crate::Head;
 
 // Does an event's acknowledgement count?
@@ -20,6 +23,23 @@ pub fn counted_ack(h: Head) -> bool
         return true;
     }
     h.kind == 4
+}
+
+// 1 if so, else 0.
+fn one_if(b: bool) -> u64
+    ensures { λ r. ⌜ r ≡ cond b 1 0 ⌝ }
+{
+    if b {
+        return 1;
+    }
+    0
+}
+
+// What any event is held against, joined into a number: one branch for the three.
+fn common_faults(h: Head, threads: usize) -> u64
+    ensures { λ r. ⌜ not (eqb r 0) ≡ commonMalformed h threads ⌝ }
+{
+    h.padding | h.stray as u64 | one_if(threads <= h.sender)
 }
 
 fn end_malformed(h: Head) -> bool
@@ -76,17 +96,14 @@ fn ack_malformed(h: Head) -> bool
     127 < h.register
 }
 
-// The faults in the rule's order.
+// Is an event malformed?
 pub fn is_malformed(h: Head, threads: usize) -> bool
     ensures { λ r. ⌜ r ≡ malformed (h .kind) h threads ⌝ }
 {
     if 6 < h.kind {
         return true;
     }
-    if threads <= h.sender {
-        return true;
-    }
-    if h.stray != 0 {
+    if common_faults(h, threads) != 0 {
         return true;
     }
     if end_malformed(h) {
@@ -101,11 +118,16 @@ pub fn is_malformed(h: Head, threads: usize) -> bool
     if ack_malformed(h) {
         return true;
     }
-    if h.padding != 0 {
-        return true;
-    }
     if h.kind != 5 {
         return false;
     }
     15 < h.target
+}
+
+// The same of an event of a kind that is not served, or of none.
+pub fn other_malformed(h: Head, threads: usize) -> bool
+    requires { ⌜ Unserved (h .kind) ⌝ }
+    ensures { λ r. ⌜ r ≡ malformed (h .kind) h threads ⌝ }
+{
+    (common_faults(h, threads) | one_if(6 < h.kind) | one_if(h.ending == 1)) != 0
 }

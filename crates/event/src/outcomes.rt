@@ -10,6 +10,7 @@ use crate::Gateway;
 use crate::Head;
 use crate::Setup;
 use crate::form::is_malformed;
+use crate::form::other_malformed;
 
 // How many a code stands for.
 pub fn count(code: u32) -> u32
@@ -130,7 +131,7 @@ pub fn other_outcome(h: Head, setup: Setup) -> u8
     requires { ⌜ Unserved (h .kind) ⌝ }
     ensures { λ r. ⌜ r ≡ outcomeOf (decisionAlone h setup) ⌝ }
 {
-    if is_malformed(h, setup.threads) {
+    if other_malformed(h, setup.threads) {
         return 31;
     }
     32

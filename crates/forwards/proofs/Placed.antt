@@ -1,10 +1,14 @@
 -- A forward that passes: where it writes, and what it counts. Assumes nothing.
 use mathlib.Core.Path.{_≡_, sym, ap, subst, _∙_}
 use mathlib.Core.List.{List, []}
-use Prim.Native.Nat.{ℕ, _+_, _*_, _^_, _≤_, _<_}
+use Prim.Native.Nat.{ℕ, _+_, _*_, _%_, _^_, _≤_, _<_}
 use native.Mathlib.Omega.{arith}
+use lib.Dec.{eqb}
 use lib.ListN.{drop}
+use lib.Pow.{pow-mono}
 use lib.Seq.{paste}
+use borrow.Author.Tests.{eqb-true, eqb-false}
+use Rattle.laws.proofs.Choices.{by-test}
 use Rattle.event.specs.declared.Head.{Head}
 use Rattle.event.specs.declared.Setup.{Setup}
 use Rattle.event.specs.declared.Gateway.{Gateway}
@@ -46,6 +50,15 @@ module _ (h : Head) (s : Setup) (g : Gateway) (k : h .kind ≡ 2) {number : ℕ}
         few = w .1;
         own = w .2 .to;
       }
+
+  -- at a thread's last 31 bytes it has sixteen at most
+  pub last : Window g → 4064 < placed h s g % 4096 → 2 ^ h .code ≤ 16
+  last v near =
+      let f = fits v in
+      let own = f .own in
+      by-test (eqb (h .code) 5)
+      (λ q. let e : 2 ^ h .code ≡ 32 = ap (λ (n : ℕ). 2 ^ n) (eqb-true (h .code) 5 q) in absurd (omega arith))
+      (λ q. let z = eqb-false (h .code) 5 q in pow-mono {i = h .code} {j = 4} (omega (arith, f .code, z)))
 
   pub forwarded-by : (ev rs : List ℕ) {rs′ : List ℕ} {w n : ℕ} → w ≡ windowStart s g → n ≡ 2 ^ h .code
       → rs′ ≡ paste rs (4096 * h .target + w + h .place) (drop 16 ev) n → rs′ ≡ forwarded (decisionThrough h s g) ev rs

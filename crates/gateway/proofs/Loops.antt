@@ -11,10 +11,12 @@ use Rattle.laws.proofs.Filled.{filled-same}
 use Rattle.event.specs.declared.Setup.{Setup}
 use Rattle.event.specs.Groups.{Grouped}
 use Rattle.effects.specs.Gateways.{gatewaysIn}
+use Rattle.effects.specs.Releases.{countsIn}
+use Rattle.effects.proofs.ReleaseLaws.{no-releases}
 use Rattle.effects.proofs.GatewayWords.{none-open}
 use Rattle.barriers.specs.Barriers.{waitingOf, waitingIn, waitsIn}
 use Rattle.barriers.proofs.MemberMasks.{mask-at}
-use Rattle.barriers.proofs.Waits.{none-yet, nobody}
+use Rattle.barriers.proofs.Waits.{none-yet, nobody, replicated}
 use Rattle.recording.specs.Recording.{threadsOf, eventAt}
 use Rattle.gateway.specs.declared.Replayed.{Replayed}
 use Rattle.gateway.specs.Replay.{State, World, stepOf, runOf, startOver, barrierOf, emptyBarrier, barriersOf, Replay, ended}
@@ -32,21 +34,20 @@ pub record AtEvent (rec : List ℕ) (s : Setup) (events : ℕ) (w₀ : World) (k
   pub so-far : worldIn s k os ≡ runOf rec s i w₀
   pub masks : k .waiting ≡ waitingIn s (waitsIn s (k .waiting))
   pub registers-long : length (k .registers) ≡ length (w₀ .registers)
-  pub counts-long : length (k .counts) ≡ length (w₀ .counts)
   pub outcomes-long : length os ≡ length (w₀ .outcomes)
   pub all-gateways : length (k .gateways) ≡ 64
   pub all-bytes : length (k .bytes) ≡ 16
 
 pub at-start : (rec : List ℕ) (s : Setup) (events : ℕ) (rs cs os : List ℕ) → Grouped s
-    → AtEvent rec s events (startOver rs cs os) (held (replicate 64 0) (replicate 16 0) (replicate 16 0) rs cs) os 0
+    → AtEvent rec s events (startOver rs cs os) (held (replicate 64 0) (replicate 16 0) (replicate 16 0) rs (countsIn s (replicate 16 0) cs)) os 0
 unfolding runOf
 at-start rec s events rs cs os g =
+    let none : countsIn s (replicate 16 0) cs ≡ cs = no-releases (s .groups) (replicate 16 0) cs (replicated 0 16) (s .threads) in
     record {
       most = omega arith;
-      so-far = λ j. record { state = record { gateways = none-open j; bytes = replicate 16 0; waits = nobody s g j }; registers = rs; counts = cs; outcomes = os };
+      so-far = λ j. record { state = record { gateways = none-open j; bytes = replicate 16 0; waits = nobody s g j }; registers = rs; counts = none j; outcomes = os };
       masks = none-yet s ∙ ap (waitingIn s) (sym (nobody s g));
       registers-long = refl;
-      counts-long = refl;
       outcomes-long = refl;
       all-gateways = refl;
       all-bytes = refl;
@@ -54,10 +55,10 @@ at-start rec s events rs cs os g =
 
 pub step-turn : (rec : List ℕ) (s : Setup) (events : ℕ) (w₀ : World) {k : Held} {gws′ ms′ bs′ rs′ cs′ os : List ℕ} {i o : ℕ} (ev : List ℕ) → AtEvent rec s events w₀ k os i → i < events
     → ev ≡ eventAt rec i → Stepped s ev o k (held gws′ ms′ bs′ rs′ cs′)
-    → length gws′ ≡ length (k .gateways) → length bs′ ≡ length (k .bytes) → length rs′ ≡ length (k .registers) → length cs′ ≡ length (k .counts)
+    → length gws′ ≡ length (k .gateways) → length bs′ ≡ length (k .bytes) → length rs′ ≡ length (k .registers)
     → AtEvent rec s events w₀ (held gws′ ms′ bs′ rs′ cs′) (set os i o) (i + 1)
 unfolding runOf
-step-turn rec s events w₀ {os = os} {i = i} {o = o} ev now more event e lg lb lr lc =
+step-turn rec s events w₀ {os = os} {i = i} {o = o} ev now more event e lg lb lr =
     record {
       most = omega arith;
       so-far =
@@ -66,7 +67,6 @@ step-turn rec s events w₀ {os = os} {i = i} {o = o} ev now more event e lg lb 
           ∙ ap (λ (n : ℕ). runOf rec s n w₀) (sym (add-one i));
       masks = e .its-masks;
       registers-long = lr ∙ now .registers-long;
-      counts-long = lc ∙ now .counts-long;
       outcomes-long = length-set os i o ∙ now .outcomes-long;
       all-gateways = lg ∙ now .all-gateways;
       all-bytes = lb ∙ now .all-bytes;

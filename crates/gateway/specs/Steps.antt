@@ -9,7 +9,7 @@ use Rattle.event.specs.Head.{headOf}
 use Rattle.event.specs.Gateways.{gatewayAt, Window}
 use Rattle.event.specs.Groups.{Grouped}
 use Rattle.event.specs.Outcomes.{outcomeOf}
-use Rattle.effects.specs.Effects.{countsAfter}
+use Rattle.effects.specs.Effects.{countsAfter, CountRoom}
 use Rattle.effects.specs.Gateways.{gatewaysIn}
 use Rattle.barriers.specs.Barriers.{waitingIn, waitsIn, BarrierRoom}
 use Rattle.recording.specs.Recording.{threadsOf}
@@ -17,7 +17,8 @@ use Rattle.gateway.specs.declared.Barrier.{Barrier}
 use Rattle.gateway.specs.declared.Replayed.{Replayed}
 use Rattle.gateway.specs.Replay.{State, stateAfter, registersAfter, World, decisionIn, runOf, startOver, emptyBarrier}
 
--- the gateways, four words a thread; who waits, a mask for each barrier; the barriers' bytes; and the lent registers and counts
+-- the gateways, four words a thread; who waits, a mask for each barrier; the barriers' bytes; the lent registers; and the counts, those
+-- lent with the releases that are still to be added to them (`countsIn`)
 pub record Held : Type 0 where
   pub gateways : List ℕ
   pub waiting : List ℕ
@@ -39,11 +40,12 @@ worldIn s k outcomes = record { state = stateIn s k; registers = k .registers; c
 
 -- What the step needs: an event of 48 bytes, sixteen gateways with their windows in the registers, and the rest as a barrier's message
 -- needs it.
-pub record StepRoom (s : Setup) (ev members : List ℕ) (k : Held) : Type 0 where
+pub record StepRoom (s : Setup) (ev groups members releases : List ℕ) (k : Held) : Type 0 where
   pub event : length ev ≡ 48
   pub four : length (k .gateways) ≡ 64
   pub windows : (t : ℕ) → Window (gatewayAt (gatewaysIn (k .gateways)) t)
-  pub rest : BarrierRoom s members (k .waiting) (k .bytes) (k .registers) (k .counts)
+  pub rest : BarrierRoom s groups members (k .waiting) (k .bytes) (k .registers) releases
+  pub room : CountRoom s (k .counts)
 
 -- What the step leaves of an event: its outcome, and what is kept then (k′) by what was kept before, as the event's decision says.
 pub record Stepped (s : Setup) (ev : List ℕ) (outcome : ℕ) (k k′ : Held) : Type 0 where

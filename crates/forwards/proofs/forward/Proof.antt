@@ -1,4 +1,5 @@
-use mathlib.Core.Path.{_≡_, sym, ap, _∙_}
+use mathlib.Core.Path.{_≡_, sym, ap, subst, _∙_}
+use Prim.Native.Nat.{ℕ, _+_, _*_, _%_, _<_}
 use mathlib.Core.List.{[]}
 use native.Mathlib.Omega.{arith}
 use Rattle.event.specs.Outcomes.{outcomeOf}
@@ -6,7 +7,7 @@ use Rattle.event.specs.ByKind.{decisionThrough}
 use Rattle.effects.specs.Effects.{withAck}
 use Rattle.effects.proofs.Acks.{ack-room}
 use Rattle.effects.proofs.Refused.{same-registers, same-counts}
-use Rattle.forwards.proofs.Placed.{fits, forwarded-by, counted-by, acked-by}
+use Rattle.forwards.proofs.Placed.{fits, last, forwarded-by, counted-by, acked-by}
 use borrow.Author.Needs.{needs}
 use Rattle.forwards.proofs.forward.Statement.{statement}
 use Rattle.forwards.proofs.forward.Tie as tie
@@ -63,7 +64,7 @@ write-requires : tie.Need-write-requires
 write-requires c κs = let a = c .before .before .before .before .before .before .before .before .before .before .args in
     let p = c .before .before .before .before .before .before .before .before .before .before .pre in
     let f = fits (a .h) (a .setup) (a .gate) (p .0) (c .before .before .before .before .before .before .forward-outcome .ensures) (c .before .before .before .before .before .if1 .left) (p .1 .window) in
-    (omega (arith, c .before .before .before .window-start .ensures .0, c .count .ensures .0, p .1 .own), c .count .ensures .1, p .1 .event)
+    (omega (arith, c .before .before .before .window-start .ensures .0, c .count .ensures .0, p .1 .own), c .count .ensures .1, p .1 .event, λ n. omega (arith, c .count .ensures .0, last (a .h) (a .setup) (a .gate) (p .0) (c .before .before .before .before .before .before .forward-outcome .ensures) (c .before .before .before .before .before .if1 .left) (p .1 .window) (subst (λ (x : ℕ). 4064 < (4096 * a .h .target + x + a .h .place) % 4096) (c .before .before .before .window-start .ensures .0) n)))
 
 notify-requires : tie.Need-notify-requires
 notify-requires c κs = let a = c .before .before .before .before .before .before .before .before .before .before .before .before .before .before .args in
