@@ -28,7 +28,7 @@ use Rattle.effects.specs.Effects.{released, waitsAfter}
 use Rattle.effects.proofs.Waits.{Threads, Members, threads-after, members-after, released-at, released-other}
 use Rattle.barriers.specs.Barriers.{waitingOf}
 use Rattle.gateway.specs.Replay.{World, decisionIn, stepOf, runOf}
-use Rattle.replay_claims.specs.Claims.{SoundBarriers, NoneWaits}
+use Rattle.replay_claims.specs.Claims.{SoundBarriers, NoneWaits, Spared}
 use Rattle.gateway.proofs.Bounds.{Windows, run-windows}
 use Rattle.barriers.proofs.Waits.{replicated}
 use Rattle.barriers.proofs.Masks.{bitOf, mask-bit, bit-tells}
@@ -75,6 +75,14 @@ module _ (s : Setup) (waits : List Bool) where
     freed-after k o r t l e =
         let q : decisionOf h s g waits ≡ Release (ownGroup h s) = passed-as h s g waits 4 k o ∙ simp r refl in
         subst (λ (d : Decision). waitsOf (waitsAfter d s waits) t ≡ false) (sym q) (released-at (s .groups) (ownGroup h s) waits (s .threads) t l e)
+
+    -- and no other group
+    spared-after : h .kind ≡ 4 → outcomeOf (decisionOf h s g waits) ≡ 0 → wholeWith h s waits ≡ true
+        → (t : ℕ) → (groupOf (s .groups) t ≡ ownGroup h s → ⊥) → waitsOf (waitsAfter (decisionOf h s g waits) s waits) t ≡ waitsOf waits t
+    unfolding waitsAfter
+    spared-after k o r t e =
+        let q : decisionOf h s g waits ≡ Release (ownGroup h s) = passed-as h s g waits 4 k o ∙ simp r refl in
+        subst (λ (d : Decision). waitsOf (waitsAfter d s waits) t ≡ waitsOf waits t) (sym q) (released-other (s .groups) (ownGroup h s) waits (s .threads) t e)
 
     -- one that does not waits
     waits-after : h .kind ≡ 4 → outcomeOf (decisionOf h s g waits) ≡ 0 → wholeWith h s waits ≡ false
@@ -150,5 +158,6 @@ module _ (rec : List ℕ) (s : Setup) (w : World) (v : Windows (w .state .gatewa
   pub release-frees : (n : ℕ) → headOf (eventAt rec n) .kind ≡ 4 → outcomeOf (decisionIn s (eventAt rec n) (runOf rec s n w .state)) ≡ 0
       → wholeWith (headOf (eventAt rec n)) s (runOf rec s n w .state .waits) ≡ true
       → NoneWaits s (ownGroup (headOf (eventAt rec n)) s) (runOf rec s (suc n) w .state)
+      × Spared s (ownGroup (headOf (eventAt rec n)) s) (runOf rec s n w .state) (runOf rec s (suc n) w .state)
   unfolding runOf stepOf
-  release-frees n k o r = freed-after s (q n .state .waits) (h n) (g n) k o r
+  release-frees n k o r = (freed-after s (q n .state .waits) (h n) (g n) k o r, spared-after s (q n .state .waits) (h n) (g n) k o r)

@@ -1,28 +1,33 @@
 -- Every claim of specs/Claims.antt, for a recording that is not refused. Assumes nothing.
 use mathlib.Core.Path.{_≡_, refl, sym, ap, _∙_, subst}
+use mathlib.Core.Bool.{Bool, true, false, cond}
 use mathlib.Core.List.{List}
 use Prim.Native.Nat.{ℕ, zero, suc, _*_, _≤_, _<_}
 use native.Mathlib.Omega.{arith}
 use lib.ListN.{length, getD, length-take, length-drop, length-replicate}
 use lib.Dec.{eqb}
-use borrow.Author.Tests.{eq-eqb, eqb-true}
+use borrow.Author.Tests.{eq-eqb, ne-eqb, eqb-true}
 use Rattle.laws.proofs.Choices.{by-test}
+use Rattle.event.specs.declared.Head.{Head}
 use Rattle.event.specs.declared.Setup.{Setup}
 use Rattle.event.specs.Head.{headOf}
 use Rattle.event.specs.Gateways.{gatewayAt}
-use Rattle.event.specs.Outcomes.{outcomeOf}
+use Rattle.event.specs.declared.Gateway.{Gateway}
+use Rattle.event.specs.Decision.{Decision, Refused, OpenOrClose, Wait, Release}
+use Rattle.event.specs.Groups.{ownGroup, wholeWith}
+use Rattle.event.specs.Outcomes.{Unserved, accepted, outcomeOf}
 use Rattle.event.proofs.Reach.{decision-within}
 use Rattle.recording.specs.Recording.{threadsOf, eventsOf, setupOf, eventAt, refusalOf}
-use Rattle.effects.specs.Effects.{forwarded, withAck}
+use Rattle.effects.specs.Effects.{gatewaysAfter, bytesAfter, waitsAfter, countsAfter, forwarded, withAck}
 use Rattle.effects.proofs.Acks.{ack-long}
 use Rattle.effects.proofs.Forwarded.{forwarded-long}
-use Rattle.gateway.specs.Replay.{World, decisionIn, stepOf, runOf, begun, Replay, ended, runWhole, replayOf}
-use Rattle.replay_claims.specs.Claims.{Counted, Unchanged, end, met, headAt, outcomeAt, Claims, AllClaimed, Numbered, NothingChanged}
+use Rattle.gateway.specs.Replay.{World, decisionIn, leaves, stepOf, runOf, begun, Replay, ended, runWhole, replayOf}
+use Rattle.replay_claims.specs.Claims.{Counted, Unchanged, end, met, headAt, outcomeAt, Leaves, withGateway, Arrived, Claims, AllClaimed, Numbered, NothingChanged}
 use Rattle.recording.proofs.Accepted.{events-fill, registers-own, counts-two, outcomes-room}
 use Rattle.barriers.proofs.Waits.{replicated}
 use Rattle.gateway.proofs.Bounds.{Windows, start-windows, run-windows}
 use Rattle.replay_claims.proofs.Counts.{outcome-at, outcome-past, counted}
-use Rattle.replay_claims.proofs.Events.{refused-unchanged, forward-written}
+use Rattle.replay_claims.proofs.Events.{refused-unchanged, forward-written, leaves-as, accepted-as}
 use Rattle.replay_claims.proofs.Barriers.{sound, one-more, release-frees}
 
 -- ---- registers keep their length
@@ -41,6 +46,15 @@ module _ (rec : List ℕ) (s : Setup) (w : World) (v : Windows (w .state .gatewa
       ∙ forwarded-long s d (eventAt rec n) (q .registers) (decision-within e s (gatewayAt (q .state .gateways) (e .target)) (q .state .waits) (run-windows rec s n w v (e .target))) (whole n h) ih
       ∙ ih
 
+-- ---- no event of another kind is accepted
+
+none-served : (e : Head) (s : Setup) (g : Gateway) (waits : List Bool) → Unserved (e .kind) → outcomeOf (accepted (e .kind) e s g waits) ≡ 0 → ⊥
+unfolding outcomeOf
+none-served e s g waits u z =
+    let q : accepted (e .kind) e s g waits ≡ Refused 32 =
+    simp (ne-eqb (e .kind) 0 (u .no-open), ne-eqb (e .kind) 1 (u .no-close), ne-eqb (e .kind) 2 (u .no-forward), ne-eqb (e .kind) 4 (u .no-barrier), ne-eqb (e .kind) 5 (u .no-update)) refl in
+    omega (arith, sym (ap outcomeOf q) ∙ z)
+
 -- ---- the claims
 
 module _ (rec registers counts outcomes : List ℕ) (passed : refusalOf rec (length registers) (length counts) (length outcomes) ≡ 0) where
@@ -52,6 +66,13 @@ module _ (rec registers counts outcomes : List ℕ) (passed : refusalOf rec (len
 
   abbrev N : ℕ
   N = eventsOf rec
+
+  -- what an event of kind k does that no row refuses
+  abbrev acceptedAt : ℕ → ℕ → Decision
+  acceptedAt n k =
+      let w = met rec registers counts outcomes n .state in
+      let e = headAt rec registers counts outcomes n in
+      accepted k e s (gatewayAt (w .gateways) (e .target)) (w .waits)
 
   -- the end is the world after all events
   pub at-end : end rec registers counts outcomes ≡ ended s (runOf rec s N w)
@@ -84,8 +105,37 @@ module _ (rec registers counts outcomes : List ℕ) (passed : refusalOf rec (len
   all-counted : Counted rec s (end rec registers counts outcomes .outcomes) N w
   all-counted = subst (λ (o : List ℕ). Counted rec s o N w) (sym (ap (λ (r : Replay). r .outcomes) at-end)) (counted rec s w N room two clear start-windows N (omega arith))
 
+  -- event n is accepted, and does what its kind k does
+  as-kind : (n k : ℕ) → n < N → outcomeAt rec registers counts outcomes n ≡ 0 → headAt rec registers counts outcomes n .kind ≡ k
+      → met rec registers counts outcomes (suc n) ≡ leaves s (eventAt rec n) n (met rec registers counts outcomes n) (acceptedAt n k)
+  unfolding runOf
+  as-kind n k h o e =
+      let m = met rec registers counts outcomes n in
+      leaves-as s (eventAt rec n) n m (acceptedAt n k) (accepted-as s (eventAt rec n) n m k e (sym (outcome-is n h) ∙ o))
+
+  -- an open or a close leaves its sender's gateway
+  gateway-left : (n k : ℕ) (g : Gateway) → n < N → outcomeAt rec registers counts outcomes n ≡ 0 → headAt rec registers counts outcomes n .kind ≡ k
+      → acceptedAt n k ≡ OpenOrClose (headAt rec registers counts outcomes n .sender) g
+      → Leaves rec registers counts outcomes n (withGateway rec registers counts outcomes n g)
+  unfolding gatewaysAfter bytesAfter waitsAfter countsAfter forwarded outcomeOf
+  gateway-left n k g h o e a =
+      let q = as-kind n k h o e ∙ ap (leaves s (eventAt rec n) n (met rec registers counts outcomes n)) a in
+      record { its-state = ap (λ (x : World). x .state) q; its-counts = ap (λ (x : World). x .counts) q; its-registers = ap (λ (x : World). x .registers) q }
+
+  -- a barrier message
+  arrived : (n : ℕ) (whole : Bool)
+      → met rec registers counts outcomes (suc n)
+      ≡ leaves s (eventAt rec n) n (met rec registers counts outcomes n)
+      (cond whole (Release (ownGroup (headAt rec registers counts outcomes n) s)) (Wait (headAt rec registers counts outcomes n .sender)))
+      → Arrived rec registers counts outcomes n whole
+  unfolding gatewaysAfter bytesAfter countsAfter forwarded outcomeOf setupOf
+  arrived n true q =
+      record { its-gateways = ap (λ (x : World). x .state .gateways) q; its-bytes = ap (λ (x : World). x .state .bytes) q; its-registers = ap (λ (x : World). x .registers) q; its-counts = ap (λ (x : World). x .counts) q }
+  arrived n false q =
+      record { its-gateways = ap (λ (x : World). x .state .gateways) q; its-bytes = ap (λ (x : World). x .state .bytes) q; its-registers = ap (λ (x : World). x .registers) q; its-counts = ap (λ (x : World). x .counts) q }
+
   all-claims : Claims rec registers counts outcomes
-  unfolding runOf stepOf
+  unfolding runOf stepOf gatewaysAfter bytesAfter waitsAfter countsAfter forwarded outcomeOf
   all-claims =
       let m = met rec registers counts outcomes in
       record {
@@ -101,6 +151,20 @@ module _ (rec registers counts outcomes : List ℕ) (passed : refusalOf rec (len
               written = f .bytes;
               then = ap (λ (x : ℕ). withAck (headAt rec registers counts outcomes n) x (forwarded (decisionIn s (eventAt rec n) (m n .state)) (eventAt rec n) (m n .registers))) z;
             };
+        notify = λ n h o k. let q = as-kind n 2 h o k in (ap (λ (x : World). x .state) q, ap (λ (x : World). x .counts) q);
+        opens = λ n h o k e. gateway-left n 0 _ h o k (simp e refl);
+        endOfThread = λ n h o k e. gateway-left n 0 _ h o k (simp e refl);
+        close = λ n h o k. gateway-left n 1 _ h o k refl;
+        update = λ n h o k.
+            let q = as-kind n 5 h o k in
+            record { its-state = ap (λ (x : World). x .state) q; its-counts = ap (λ (x : World). x .counts) q; its-registers = ap (λ (x : World). x .registers) q };
+        arrival = λ n h o k.
+            arrived n (wholeWith (headAt rec registers counts outcomes n) s (m n .state .waits)) (as-kind n 4 h o k);
+        served = λ n h o u.
+            let e = headAt rec registers counts outcomes n in
+            let z : outcomeOf (decisionIn s (eventAt rec n) (m n .state)) ≡ 0 = sym (outcome-is n h) ∙ o in
+            none-served e s (gatewayAt (m n .state .gateways) (e .target)) (m n .state .waits) u
+            (subst (λ (d : Decision). outcomeOf d ≡ 0) (accepted-as s (eventAt rec n) n (m n) (e .kind) refl z) z);
         past = λ k h. ap (λ (r : Replay). getD (r .outcomes) k 0) at-end ∙ outcome-past rec s w N k h;
         last = at-end;
         barriers = λ n. sound rec s w start-windows refl n;

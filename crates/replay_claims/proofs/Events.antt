@@ -10,7 +10,7 @@ use Rattle.event.specs.declared.Setup.{Setup}
 use Rattle.event.specs.Decision.{Decision}
 use Rattle.event.specs.Head.{headOf}
 use Rattle.event.specs.Gateways.{gatewayAt, Window}
-use Rattle.event.specs.Outcomes.{outcomeOf}
+use Rattle.event.specs.Outcomes.{accepted, decisionOf, outcomeOf}
 use Rattle.event.specs.Codes.{countOf}
 use Rattle.event.specs.Within.{OwnBytes, Within}
 use Rattle.event.proofs.Reach.{decision-within}
@@ -19,7 +19,7 @@ use Rattle.effects.specs.Effects.{forwarded, Written, withAck}
 use Rattle.effects.proofs.Acks.{ack-elsewhere}
 use Rattle.effects.proofs.Forwarded.{written}
 use Rattle.effects.proofs.Refused.{same-gateways, same-bytes, same-waits, same-counts, same-registers}
-use Rattle.gateway.specs.Replay.{State, stateAfter, World, decisionIn, stepOf}
+use Rattle.gateway.specs.Replay.{State, stateAfter, World, decisionIn, leaves, stepOf}
 use Rattle.replay_claims.specs.Claims.{Unchanged, forwardPlace}
 
 -- ---- a refused event
@@ -64,3 +64,20 @@ module _ (s : Setup) (ev : List ℕ) (w : State) (rs : List ℕ) (event : length
         recipients = u .2;
         bytes = written (h .target) (forwardPlace s h w) (2 ^ h .code) (h .notify) ev rs (u .1) event (omega (arith, u .0, u .2 .to));
       })
+
+-- ---- what an accepted event leaves, by its decision
+
+module _ (s : Setup) (ev : List ℕ) (i : ℕ) (w : World) where
+  abbrev d : Decision
+  d = decisionIn s ev (w .state)
+
+  -- an event whose decision is known leaves what that decision leaves
+  pub leaves-as : (x : Decision) → d ≡ x → stepOf s ev i w ≡ leaves s ev i w x
+  unfolding stepOf
+  leaves-as x q = ap (leaves s ev i w) q
+
+  -- it is what its kind does
+  pub accepted-as : (k : ℕ) → headOf ev .kind ≡ k → outcomeOf d ≡ 0
+      → d ≡ accepted k (headOf ev) s (gatewayAt (w .state .gateways) (headOf ev .target)) (w .state .waits)
+  unfolding decisionOf
+  accepted-as k e o = passed-as (headOf ev) s (gatewayAt (w .state .gateways) (headOf ev .target)) (w .state .waits) k e o

@@ -1,6 +1,6 @@
--- What is claimed of every replay, beside what it is: counted from the events' own bytes, the outcomes and the state that each event met,
--- and never from the counts. Document 01: "The N0 counts of all threads add up to the accepted forwards with notify 1 plus the group size
--- for each release"; "a nonzero outcome changes nothing else".
+-- What is claimed of every replay, beside what it is: sums, counted from the events' own bytes, the outcomes and the state that each event
+-- met, and never from the counts; and what each event leaves. Document 01: "The N0 counts of all threads add up to the accepted forwards
+-- with notify 1 plus the group size for each release"; "a nonzero outcome changes nothing else".
 use mathlib.Core.Path.{_≡_}
 use mathlib.Core.Bool.{Bool, true, false, cond, _&&_}
 use mathlib.Core.List.{List}
@@ -11,12 +11,13 @@ use Rattle.event.specs.declared.Head.{Head}
 use Rattle.event.specs.declared.Setup.{Setup}
 use Rattle.event.specs.Head.{headOf}
 use Rattle.event.specs.Codes.{countOf}
-use Rattle.event.specs.Gateways.{gatewayAt}
+use Rattle.event.specs.declared.Gateway.{Gateway}
+use Rattle.event.specs.Gateways.{closed, opened, gatewayAt}
 use Rattle.event.specs.Groups.{noGroup, groupOf, waitsOf, wholeOf, groupSize, ownGroup, wholeWith}
-use Rattle.event.specs.Outcomes.{isForward, isBarrier, forwardStart}
+use Rattle.event.specs.Outcomes.{isForward, isBarrier, Unserved, ends, forwardStart}
 use Rattle.event.specs.Within.{OwnBytes}
 use Rattle.recording.specs.Recording.{threadsOf, eventsOf, setupOf, eventAt, refusalOf}
-use Rattle.effects.specs.Effects.{Written, n0, n2, ackPlace, withAck}
+use Rattle.effects.specs.Effects.{Written, n0, n2, notified, groupNotified, ackPlace, withAck}
 use Rattle.gateway.specs.Replay.{State, World, barrierOf, runOf, stepOf, begun, Replay, ended, refusedAnswer, replayOf}
 
 -- ---- counts
@@ -87,6 +88,10 @@ pub record SoundBarriers (s : Setup) (w : State) : Type 0 where
 abbrev pub NoneWaits : Setup → ℕ → State → Type 0
 NoneWaits s g w = (t : ℕ) → t < s .threads → groupOf (s .groups) t ≡ g → waitsOf (w .waits) t ≡ false
 
+-- who is of no group, or of another, waits as before
+abbrev pub Spared : Setup → ℕ → State → State → Type 0
+Spared s g w w′ = (t : ℕ) → (groupOf (s .groups) t ≡ g → ⊥) → waitsOf (w′ .waits) t ≡ waitsOf (w .waits) t
+
 -- ---- a recording that is not refused
 
 module _ (rec registers counts outcomes : List ℕ) where
@@ -117,6 +122,33 @@ module _ (rec registers counts outcomes : List ℕ) where
     pub written : Written (placeAt n) (countAt n) (eventAt rec n) (met n .registers) bytes
     pub then : met (suc n) .registers ≡ withAck (headAt n) 0 bytes
 
+  -- event n leaves a state, the counts as it met them, and in the registers nothing but its acknowledgement
+  pub record Leaves (n : ℕ) (left : State) : Type 0 where
+    pub its-state : met (suc n) .state ≡ left
+    pub its-counts : met (suc n) .counts ≡ met n .counts
+    pub its-registers : met (suc n) .registers ≡ withAck (headAt n) 0 (met n .registers)
+
+  -- the state that event n met, with the sender's gateway as given
+  abbrev pub withGateway : ℕ → Gateway → State
+  withGateway n gateway =
+      let w = met n .state in
+      record { gateways = set (w .gateways) (headAt n .sender) gateway; bytes = w .bytes; waits = w .waits }
+
+  -- and with the byte of the update's barrier as the update gives it
+  abbrev pub withByte : ℕ → State
+  withByte n =
+      let w = met n .state in
+      record { gateways = w .gateways; bytes = set (w .bytes) (headAt n .target) (headAt n .code); waits = w .waits }
+
+  -- event n, a barrier message, makes its group wait whole or not
+  pub record Arrived (n : ℕ) (whole : Bool) : Type 0 where
+    pub its-gateways : met (suc n) .state .gateways ≡ met n .state .gateways
+    pub its-bytes : met (suc n) .state .bytes ≡ met n .state .bytes
+    pub its-registers : met (suc n) .registers ≡ withAck (headAt n) 0 (met n .registers)
+    pub its-counts : met (suc n) .counts
+        ≡ cond whole (groupNotified (threadsOf rec) (setupOf rec .groups) (ownGroup (headAt n) (setupOf rec)) (met n .counts))
+        (met n .counts)
+
   pub record Claims : Type 0 where
     -- "The N0 counts of all threads add up to the accepted forwards with notify 1 plus the group size for each release", N2 with notify 2
     pub n0s : totalOf n0 (threadsOf rec) (end .counts)
@@ -128,6 +160,22 @@ module _ (rec registers counts outcomes : List ℕ) where
     pub refused : (n : ℕ) → n < eventsOf rec → (outcomeAt n ≡ 0 → ⊥) → Unchanged (setupOf rec) (eventAt rec n) n (outcomeAt n) (met n)
     -- "A forward writes its 2^code bytes at 32 x base + offset of the recipient"
     pub forward : (n : ℕ) → n < eventsOf rec → outcomeAt n ≡ 0 → headAt n .kind ≡ 2 → Forwarded n
+    -- a forward "adds 1 to its N0 (notify 1) or N2 (notify 2)", and leaves gateways and barriers
+    pub notify : (n : ℕ) → n < eventsOf rec → outcomeAt n ≡ 0 → headAt n .kind ≡ 2
+        → (met (suc n) .state ≡ met n .state) × (met (suc n) .counts ≡ notified (headAt n .target) (headAt n .notify) (met n .counts))
+    -- "Open sets base, size and key, replacing old ones; with end-of-thread it closes instead"; a close closes
+    pub opens : (n : ℕ) → n < eventsOf rec → outcomeAt n ≡ 0 → headAt n .kind ≡ 0 → ends (headAt n) ≡ false
+        → Leaves n (withGateway n (opened (headAt n .place) (headAt n .code) (headAt n .key)))
+    pub endOfThread : (n : ℕ) → n < eventsOf rec → outcomeAt n ≡ 0 → headAt n .kind ≡ 0 → ends (headAt n) ≡ true
+        → Leaves n (withGateway n closed)
+    pub close : (n : ℕ) → n < eventsOf rec → outcomeAt n ≡ 0 → headAt n .kind ≡ 1 → Leaves n (withGateway n closed)
+    -- "An update sets the barrier byte."
+    pub update : (n : ℕ) → n < eventsOf rec → outcomeAt n ≡ 0 → headAt n .kind ≡ 5 → Leaves n (withByte n)
+    -- "When every member of a group waits, each gets one N0"; gateways and bytes stay
+    pub arrival : (n : ℕ) → n < eventsOf rec → outcomeAt n ≡ 0 → headAt n .kind ≡ 4
+        → Arrived n (wholeWith (headAt n) (setupOf rec) (met n .state .waits))
+    -- and there is no other accepted event
+    pub served : (n : ℕ) → n < eventsOf rec → outcomeAt n ≡ 0 → Unserved (headAt n .kind) → ⊥
     -- "Outcome bytes past the events stay"
     pub past : (k : ℕ) → eventsOf rec ≤ k → getD (end .outcomes) k 0 ≡ getD outcomes k 0
     -- "The answer holds the end gateways and barriers", and the buffers are as the last event left them
@@ -140,6 +188,7 @@ module _ (rec registers counts outcomes : List ℕ) where
     pub release : (n : ℕ) → n < eventsOf rec → outcomeAt n ≡ 0 → headAt n .kind ≡ 4
         → wholeWith (headAt n) (setupOf rec) (met n .state .waits) ≡ true
         → NoneWaits (setupOf rec) (ownGroup (headAt n) (setupOf rec)) (met (suc n) .state)
+        × Spared (setupOf rec) (ownGroup (headAt n) (setupOf rec)) (met n .state) (met (suc n) .state)
 
 -- ---- the claims
 
