@@ -15,12 +15,12 @@
  * 8 bytes), and the vector registers saved (in Linux, between kernel_fpu_begin and kernel_fpu_end); an order check is too long for that. A
  * driver that cannot see to all of it asks a process.
  *
- * What a call takes (`make limits` measures it; docs/BENCHMARKS.md, "At the limits", has the figures and how they were taken):
+ * What a call takes (`make limits` measures it; docs/BENCHMARKS.md has the figures and how they were taken, below At the limits):
  * Stack, arguments, return address and red zone included: a batch check at most 512 bytes, an order check or a replay 1,024,
  * mpl_deltas_in_play 64. The caller's memcpy and memset come on top. No frame depends on the input.
- * Time, for 16,384 dwords or 65,535 events: a batch check some 0.1 milliseconds, a replay some 1, an order check some tens. That one grows
- * with the square of the OBJECTs where an early one stays unfinished, and not with the run's length: at most two events an object pass, and
- * the one after them ends the run.
+ * Time, for 16,384 dwords or 65,535 events: a batch check some 0.1 milliseconds, a replay some 1, an order check some 10. That one grows
+ * with the OBJECTs times the commands where two OBJECTs or more stay unfinished, and not with the run's length: at most two events an
+ * object pass, and the one after them ends the run.
  */
 #ifndef MPL_H
 #define MPL_H

@@ -48,11 +48,15 @@ static void put_each_to_end(uint32_t command)
     batch[dwords++] = 0x05000000; /* END */
 }
 
-/* Every dword a command, and of the kind that takes longest. */
-static void fill_flushes(void)
+/* Every dword a command, and none the same as the one before, so that no loop takes two of them. */
+static void fill_single(void)
 {
     dwords = 0;
-    put_each_to_end(0x02000000); /* MI_FLUSH */
+    while (dwords < MOST - 1) {
+        batch[dwords] = dwords % 2 == 0 ? 0x02000000 : 0; /* MI_FLUSH, no-op */
+        dwords++;
+    }
+    put_each_to_end(0);
 }
 
 /* Type 1, all eight deltas in play: seven times (1, 1), then (-1, 1). */
@@ -65,8 +69,8 @@ static void put_scoreboard(void)
 }
 
 /*
- * As many OBJECTs as a batch holds, started from the last to the first and none finished, so that each start looks at all before it, and
- * tries all deltas at each. A fifth is where the last delta leads, and uses no scoreboard, so that only the last test lets a start pass.
+ * As many OBJECTs as a batch holds, started from the last to the first and none finished, so that each start looks at all before it. Half
+ * are where the last delta leads, and use no scoreboard: these are looked at closely by each start of the others.
  */
 static void fill_objects(void)
 {
@@ -74,19 +78,20 @@ static void fill_objects(void)
     put_scoreboard();
     uint32_t objects = (MOST - 1 - (uint32_t)dwords) / 6;
     for (uint32_t k = 0; k < objects; k++) {
-        bool early = k < objects / 5;
+        bool early = k < objects / 2;
         uint32_t object[] = {0x71000004, 0, early ? 0 : 1u << 21, 0, early ? 101u << 16 | 99 : 100u << 16 | 100, 0xff};
         put(object, sizeof object / sizeof object[0]);
         run[k] = 2 * (objects - 1 - k);
     }
     run_len = objects;
-    put_each_to_end(0x02000000); /* MI_FLUSH, for which the batch check uses most stack */
+    put_each_to_end(0x02000000); /* MI_FLUSH */
 }
 
-/* A forward of any length that ends with the last register, where its bytes are stored one by one; notify 0 to 2. */
+/* A forward of any length, to any place or to one that ends with the last register, which is stored in another way; notify 0 to 2. */
 static void fill_forward(uint8_t *event)
 {
-    uint32_t code = random_below(6), offset = MPL_THREAD_REGISTER_BYTES - (1u << code);
+    uint32_t code = random_below(6), last = MPL_THREAD_REGISTER_BYTES - (1u << code);
+    uint32_t offset = random_below(2) == 0 ? last : random_below(last + 1);
     event[MPL_EVENT_KIND_AT] = MPL_FORWARD;
     event[MPL_EVENT_FLAGS_AT] |= (uint8_t)(random_below(3) << 1);
     event[MPL_EVENT_TARGET_AT] = MPL_THREADS_MOST - 1;
@@ -171,8 +176,8 @@ static const struct subject {
     uint64_t (*ask)(void);
     size_t stack_most;
 } subjects[] = {
-    {"mpl_check_batch", "MI_FLUSHes", fill_flushes, ask_batch, 512},
-    {"mpl_check_batch_dwords", "MI_FLUSHes", fill_flushes, ask_batch_dwords, 512},
+    {"mpl_check_batch", "MI_FLUSHes, no-ops in turn", fill_single, ask_batch, 512},
+    {"mpl_check_batch_dwords", "MI_FLUSHes, no-ops in turn", fill_single, ask_batch_dwords, 512},
     {"mpl_check_order", "2,728 OBJECTs, none finished", fill_objects, ask_order, 1024},
     {"mpl_check_order_dwords", "2,728 OBJECTs, none finished", fill_objects, ask_order_dwords, 1024},
     {"mpl_replay", "65,535 barriers and forwards", fill_events, ask_replay, 1024},
