@@ -1,12 +1,13 @@
 -- Every claim of specs/Claims.antt, for a recording that is not refused. Assumes nothing.
 use mathlib.Core.Path.{_≡_, refl, sym, ap, _∙_, subst}
 use mathlib.Core.Bool.{Bool, true, false, cond}
+use mathlib.Core.Logic.{_⊎_, inl, inr}
 use mathlib.Core.List.{List}
 use Prim.Native.Nat.{ℕ, zero, suc, _*_, _≤_, _<_}
 use native.Mathlib.Omega.{arith}
 use lib.ListN.{length, getD, length-take, length-drop, length-replicate}
 use lib.Dec.{eqb}
-use borrow.Author.Tests.{eq-eqb, ne-eqb, eqb-true}
+use borrow.Author.Tests.{eq-eqb, ne-eqb, eqb-true, eqb-false}
 use Rattle.laws.proofs.Choices.{by-test}
 use Rattle.event.specs.declared.Head.{Head}
 use Rattle.event.specs.declared.Setup.{Setup}
@@ -15,7 +16,7 @@ use Rattle.event.specs.Gateways.{gatewayAt}
 use Rattle.event.specs.declared.Gateway.{Gateway}
 use Rattle.event.specs.Decision.{Decision, Refused, OpenOrClose, Wait, Release}
 use Rattle.event.specs.Groups.{ownGroup, wholeWith}
-use Rattle.event.specs.Outcomes.{Unserved, accepted, outcomeOf}
+use Rattle.event.specs.Outcomes.{Unserved, ends, accepted, outcomeOf}
 use Rattle.event.proofs.Reach.{decision-within}
 use Rattle.recording.specs.Recording.{threadsOf, eventsOf, setupOf, eventAt, refusalOf}
 use Rattle.effects.specs.Effects.{gatewaysAfter, bytesAfter, waitsAfter, countsAfter, forwarded, withAck}
@@ -23,6 +24,7 @@ use Rattle.effects.proofs.Acks.{ack-long}
 use Rattle.effects.proofs.Forwarded.{forwarded-long}
 use Rattle.gateway.specs.Replay.{World, decisionIn, leaves, stepOf, runOf, begun, Replay, ended, runWhole, replayOf}
 use Rattle.replay_claims.specs.Claims.{Counted, Unchanged, end, met, headAt, outcomeAt, Leaves, withGateway, Arrived, Claims, AllClaimed, Numbered, NothingChanged}
+use Rattle.replay_claims.specs.Claims.{Accepted, Opens, EndsThread, Closes, Forwards, Arrives, Updates}
 use Rattle.recording.proofs.Accepted.{events-fill, registers-own, counts-two, outcomes-room}
 use Rattle.barriers.proofs.Waits.{replicated}
 use Rattle.gateway.proofs.Bounds.{Windows, start-windows, run-windows}
@@ -134,15 +136,47 @@ module _ (rec registers counts outcomes : List ℕ) (passed : refusalOf rec (len
   arrived n false q =
       record { its-gateways = ap (λ (x : World). x .state .gateways) q; its-bytes = ap (λ (x : World). x .state .bytes) q; its-registers = ap (λ (x : World). x .registers) q; its-counts = ap (λ (x : World). x .counts) q }
 
+  -- an accepted event's sort
+  sort-of : (n : ℕ) → Accepted rec registers counts outcomes n
+      → (Opens rec registers counts outcomes n ⊎ EndsThread rec registers counts outcomes n)
+      ⊎ (Closes rec registers counts outcomes n ⊎ Forwards rec registers counts outcomes n)
+      ⊎ (Arrives rec registers counts outcomes n ⊎ Updates rec registers counts outcomes n)
+  sort-of n a =
+      let e = headAt rec registers counts outcomes n in
+      let q = met rec registers counts outcomes n in
+      let z : outcomeOf (decisionIn s (eventAt rec n) (q .state)) ≡ 0 = sym (outcome-is n (a .0)) ∙ a .1 in
+      by-test (eqb (e .kind) 0)
+      (λ k. by-test (ends e) (λ t. inl (inr (eqb-true (e .kind) 0 k, t))) (λ t. inl (inl (eqb-true (e .kind) 0 k, t))))
+      (λ k0. by-test (eqb (e .kind) 1) (λ k. inr (inl (inl (eqb-true (e .kind) 1 k))))
+      (λ k1. by-test (eqb (e .kind) 2) (λ k. inr (inl (inr (eqb-true (e .kind) 2 k))))
+      (λ k2. by-test (eqb (e .kind) 4) (λ k. inr (inr (inl (eqb-true (e .kind) 4 k))))
+      (λ k4. by-test (eqb (e .kind) 5) (λ k. inr (inr (inr (eqb-true (e .kind) 5 k))))
+      (λ k5. absurd (none-served e s (gatewayAt (q .state .gateways) (e .target)) (q .state .waits)
+      (record {
+        no-open = eqb-false (e .kind) 0 k0;
+        no-close = eqb-false (e .kind) 1 k1;
+        no-forward = eqb-false (e .kind) 2 k2;
+        no-barrier = eqb-false (e .kind) 4 k4;
+        no-update = eqb-false (e .kind) 5 k5;
+      })
+      (subst (λ (d : Decision). outcomeOf d ≡ 0) (accepted-as s (eventAt rec n) n q (e .kind) refl z) z)))))))
+
   all-claims : Claims rec registers counts outcomes
   unfolding runOf stepOf gatewaysAfter bytesAfter waitsAfter countsAfter forwarded outcomeOf
   all-claims =
       let m = met rec registers counts outcomes in
       record {
+        either = λ n h.
+            by-test (eqb (outcomeAt rec registers counts outcomes n) 0)
+            (λ e. inr (h, eqb-true (outcomeAt rec registers counts outcomes n) 0 e))
+            (λ e. inl (h, eqb-false (outcomeAt rec registers counts outcomes n) 0 e));
+        served = λ n a. sort-of n a;
         n0s = rw (at-end, ← threads) (rw at-end at (all-counted .n0s));
         n2s = rw (at-end, ← threads) (rw at-end at (all-counted .n2s));
-        refused = λ n h o. subst (λ (x : ℕ). Unchanged s (eventAt rec n) n x (m n)) (sym (outcome-is n h)) (refused-unchanged s (eventAt rec n) n (m n) (λ e. o (outcome-is n h ∙ e)));
-        forward = λ n h o k.
+        refused = λ n a. let h = a .0 in let o = a .1 in subst (λ (x : ℕ). Unchanged s (eventAt rec n) n x (m n)) (sym (outcome-is n h)) (refused-unchanged s (eventAt rec n) n (m n) (λ e. o (outcome-is n h ∙ e)));
+        forward = λ n a k.
+            let h = a .0 in
+            let o = a .1 in
             let z : outcomeOf (decisionIn s (eventAt rec n) (m n .state)) ≡ 0 = sym (outcome-is n h) ∙ o in
             let f = forward-written s (eventAt rec n) (m n .state) (m n .registers) (event-long n h) (registers-long n (omega arith)) (run-windows rec s n w start-windows (headAt rec registers counts outcomes n .target)) k z in
             record {
@@ -151,25 +185,20 @@ module _ (rec registers counts outcomes : List ℕ) (passed : refusalOf rec (len
               written = f .bytes;
               then = ap (λ (x : ℕ). withAck (headAt rec registers counts outcomes n) x (forwarded (decisionIn s (eventAt rec n) (m n .state)) (eventAt rec n) (m n .registers))) z;
             };
-        notify = λ n h o k. let q = as-kind n 2 h o k in (ap (λ (x : World). x .state) q, ap (λ (x : World). x .counts) q);
-        opens = λ n h o k e. gateway-left n 0 _ h o k (simp e refl);
-        endOfThread = λ n h o k e. gateway-left n 0 _ h o k (simp e refl);
-        close = λ n h o k. gateway-left n 1 _ h o k refl;
-        update = λ n h o k.
-            let q = as-kind n 5 h o k in
+        notify = λ n a k. let q = as-kind n 2 (a .0) (a .1) k in (ap (λ (x : World). x .state) q, ap (λ (x : World). x .counts) q);
+        opens = λ n a k. gateway-left n 0 _ (a .0) (a .1) (k .0) (simp (k .1) refl);
+        endOfThread = λ n a k. gateway-left n 0 _ (a .0) (a .1) (k .0) (simp (k .1) refl);
+        close = λ n a k. gateway-left n 1 _ (a .0) (a .1) k refl;
+        update = λ n a k.
+            let q = as-kind n 5 (a .0) (a .1) k in
             record { its-state = ap (λ (x : World). x .state) q; its-counts = ap (λ (x : World). x .counts) q; its-registers = ap (λ (x : World). x .registers) q };
-        arrival = λ n h o k.
-            arrived n (wholeWith (headAt rec registers counts outcomes n) s (m n .state .waits)) (as-kind n 4 h o k);
-        served = λ n h o u.
-            let e = headAt rec registers counts outcomes n in
-            let z : outcomeOf (decisionIn s (eventAt rec n) (m n .state)) ≡ 0 = sym (outcome-is n h) ∙ o in
-            none-served e s (gatewayAt (m n .state .gateways) (e .target)) (m n .state .waits) u
-            (subst (λ (d : Decision). outcomeOf d ≡ 0) (accepted-as s (eventAt rec n) n (m n) (e .kind) refl z) z);
+        arrival = λ n a k.
+            arrived n (wholeWith (headAt rec registers counts outcomes n) s (m n .state .waits)) (as-kind n 4 (a .0) (a .1) k);
         past = λ k h. ap (λ (r : Replay). getD (r .outcomes) k 0) at-end ∙ outcome-past rec s w N k h;
         last = at-end;
         barriers = λ n. sound rec s w start-windows refl n;
-        waits = λ n h o k r. one-more rec s w start-windows n k (sym (outcome-is n h) ∙ o) r;
-        release = λ n h o k r. release-frees rec s w start-windows n k (sym (outcome-is n h) ∙ o) r;
+        waits = λ n a k r. one-more rec s w start-windows n k (sym (outcome-is n (a .0)) ∙ a .1) r;
+        release = λ n a k r. release-frees rec s w start-windows n k (sym (outcome-is n (a .0)) ∙ a .1) r;
       }
 
 pub all-claimed : AllClaimed

@@ -75,7 +75,7 @@ received : (n k : ℕ) (rec registers counts outcomes : List ℕ) (l : Landed n 
 received n k rec registers counts outcomes l =
     let e = l .event in
     let a = placeAt rec registers counts outcomes e in
-    let f = all-claimed rec registers counts outcomes (l .accepted) .forward e (l .one) (l .outcome) (l .kind) in
+    let f = all-claimed rec registers counts outcomes (l .accepted) .forward e (l .one, l .outcome) (l .kind) in
     let at : a + (k - a) ≡ k = add-sub-of-le (l .from) in
     record {
       from = omega (arith, f .recipients .from, l .names, l .from);

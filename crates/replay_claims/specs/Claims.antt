@@ -3,6 +3,7 @@
 -- with notify 1 plus the group size for each release"; "a nonzero outcome changes nothing else".
 use mathlib.Core.Path.{_≡_}
 use mathlib.Core.Bool.{Bool, true, false, cond, _&&_}
+use mathlib.Core.Logic.{_⊎_}
 use mathlib.Core.List.{List}
 use Prim.Native.Nat.{ℕ, zero, suc, _+_, _/_, _%_, _^_, _≤_, _<_}
 use lib.Dec.{eqb}
@@ -14,7 +15,7 @@ use Rattle.event.specs.Codes.{countOf}
 use Rattle.event.specs.declared.Gateway.{Gateway}
 use Rattle.event.specs.Gateways.{closed, opened, gatewayAt}
 use Rattle.event.specs.Groups.{noGroup, groupOf, waitsOf, wholeOf, groupSize, ownGroup, wholeWith}
-use Rattle.event.specs.Outcomes.{isForward, isBarrier, Unserved, ends, forwardStart}
+use Rattle.event.specs.Outcomes.{isForward, isBarrier, ends, forwardStart}
 use Rattle.event.specs.Within.{OwnBytes}
 use Rattle.recording.specs.Recording.{threadsOf, eventsOf, setupOf, eventAt, refusalOf}
 use Rattle.effects.specs.Effects.{Written, n0, n2, notified, groupNotified, ackPlace, withAck}
@@ -149,7 +150,37 @@ module _ (rec registers counts outcomes : List ℕ) where
         ≡ cond whole (groupNotified (threadsOf rec) (setupOf rec .groups) (ownGroup (headAt n) (setupOf rec)) (met n .counts))
         (met n .counts)
 
+  -- Sorts of event, each named once: the claims below speak of them, and `either` and `served` say that there is no other. An event with a
+  -- nonzero outcome, and one with outcome 0:
+  abbrev pub Refused : ℕ → Type 0
+  Refused n = (n < eventsOf rec) × (outcomeAt n ≡ 0 → ⊥)
+
+  abbrev pub Accepted : ℕ → Type 0
+  Accepted n = (n < eventsOf rec) × (outcomeAt n ≡ 0)
+
+  -- by kind, and an open with or without end-of-thread
+  abbrev pub Opens : ℕ → Type 0
+  Opens n = (headAt n .kind ≡ 0) × (ends (headAt n) ≡ false)
+
+  abbrev pub EndsThread : ℕ → Type 0
+  EndsThread n = (headAt n .kind ≡ 0) × (ends (headAt n) ≡ true)
+
+  abbrev pub Closes : ℕ → Type 0
+  Closes n = headAt n .kind ≡ 1
+
+  abbrev pub Forwards : ℕ → Type 0
+  Forwards n = headAt n .kind ≡ 2
+
+  abbrev pub Arrives : ℕ → Type 0
+  Arrives n = headAt n .kind ≡ 4
+
+  abbrev pub Updates : ℕ → Type 0
+  Updates n = headAt n .kind ≡ 5
+
   pub record Claims : Type 0 where
+    -- every event is refused or accepted, and an accepted one is of one of these sorts
+    pub either : (n : ℕ) → n < eventsOf rec → Refused n ⊎ Accepted n
+    pub served : (n : ℕ) → Accepted n → (Opens n ⊎ EndsThread n) ⊎ (Closes n ⊎ Forwards n) ⊎ (Arrives n ⊎ Updates n)
     -- "The N0 counts of all threads add up to the accepted forwards with notify 1 plus the group size for each release", N2 with notify 2
     pub n0s : totalOf n0 (threadsOf rec) (end .counts)
         ≡ notifications rec (setupOf rec) (end .outcomes) (begun registers counts outcomes) 1 (eventsOf rec)
@@ -157,35 +188,33 @@ module _ (rec registers counts outcomes : List ℕ) where
     pub n2s : totalOf n2 (threadsOf rec) (end .counts)
         ≡ notifications rec (setupOf rec) (end .outcomes) (begun registers counts outcomes) 2 (eventsOf rec)
     -- "a nonzero outcome changes nothing else"
-    pub refused : (n : ℕ) → n < eventsOf rec → (outcomeAt n ≡ 0 → ⊥) → Unchanged (setupOf rec) (eventAt rec n) n (outcomeAt n) (met n)
+    pub refused : (n : ℕ) → Refused n → Unchanged (setupOf rec) (eventAt rec n) n (outcomeAt n) (met n)
     -- "A forward writes its 2^code bytes at 32 x base + offset of the recipient"
-    pub forward : (n : ℕ) → n < eventsOf rec → outcomeAt n ≡ 0 → headAt n .kind ≡ 2 → Forwarded n
+    pub forward : (n : ℕ) → Accepted n → Forwards n → Forwarded n
     -- a forward "adds 1 to its N0 (notify 1) or N2 (notify 2)", and leaves gateways and barriers
-    pub notify : (n : ℕ) → n < eventsOf rec → outcomeAt n ≡ 0 → headAt n .kind ≡ 2
+    pub notify : (n : ℕ) → Accepted n → Forwards n
         → (met (suc n) .state ≡ met n .state) × (met (suc n) .counts ≡ notified (headAt n .target) (headAt n .notify) (met n .counts))
     -- "Open sets base, size and key, replacing old ones; with end-of-thread it closes instead"; a close closes
-    pub opens : (n : ℕ) → n < eventsOf rec → outcomeAt n ≡ 0 → headAt n .kind ≡ 0 → ends (headAt n) ≡ false
+    pub opens : (n : ℕ) → Accepted n → Opens n
         → Leaves n (withGateway n (opened (headAt n .place) (headAt n .code) (headAt n .key)))
-    pub endOfThread : (n : ℕ) → n < eventsOf rec → outcomeAt n ≡ 0 → headAt n .kind ≡ 0 → ends (headAt n) ≡ true
+    pub endOfThread : (n : ℕ) → Accepted n → EndsThread n
         → Leaves n (withGateway n closed)
-    pub close : (n : ℕ) → n < eventsOf rec → outcomeAt n ≡ 0 → headAt n .kind ≡ 1 → Leaves n (withGateway n closed)
+    pub close : (n : ℕ) → Accepted n → Closes n → Leaves n (withGateway n closed)
     -- "An update sets the barrier byte."
-    pub update : (n : ℕ) → n < eventsOf rec → outcomeAt n ≡ 0 → headAt n .kind ≡ 5 → Leaves n (withByte n)
+    pub update : (n : ℕ) → Accepted n → Updates n → Leaves n (withByte n)
     -- "When every member of a group waits, each gets one N0"; gateways and bytes stay
-    pub arrival : (n : ℕ) → n < eventsOf rec → outcomeAt n ≡ 0 → headAt n .kind ≡ 4
+    pub arrival : (n : ℕ) → Accepted n → Arrives n
         → Arrived n (wholeWith (headAt n) (setupOf rec) (met n .state .waits))
-    -- and there is no other accepted event
-    pub served : (n : ℕ) → n < eventsOf rec → outcomeAt n ≡ 0 → Unserved (headAt n .kind) → ⊥
     -- "Outcome bytes past the events stay"
     pub past : (k : ℕ) → eventsOf rec ≤ k → getD (end .outcomes) k 0 ≡ getD outcomes k 0
     -- "The answer holds the end gateways and barriers", and the buffers are as the last event left them
     pub last : end ≡ ended (setupOf rec) (met (eventsOf rec))
     -- barriers, before and after every event, after one more has come, and after a release
     pub barriers : (n : ℕ) → SoundBarriers (setupOf rec) (met n .state)
-    pub waits : (n : ℕ) → n < eventsOf rec → outcomeAt n ≡ 0 → headAt n .kind ≡ 4
+    pub waits : (n : ℕ) → Accepted n → Arrives n
         → wholeWith (headAt n) (setupOf rec) (met n .state .waits) ≡ false
         → met (suc n) .state .waits ≡ set (met n .state .waits) (headAt n .sender) true
-    pub release : (n : ℕ) → n < eventsOf rec → outcomeAt n ≡ 0 → headAt n .kind ≡ 4
+    pub release : (n : ℕ) → Accepted n → Arrives n
         → wholeWith (headAt n) (setupOf rec) (met n .state .waits) ≡ true
         → NoneWaits (setupOf rec) (ownGroup (headAt n) (setupOf rec)) (met (suc n) .state)
         × Spared (setupOf rec) (ownGroup (headAt n) (setupOf rec)) (met n .state) (met (suc n) .state)
