@@ -2,6 +2,7 @@
 # call of the library can take, in stack and in time.
 gcc := gcc -std=c11 -O2 -Wall -Wextra -Werror -pedantic -Iinclude
 lib := target/staticlib/libmpl.a
+programs := $(addprefix target/bin/mpl_,shim replay limits calls)
 tools := need-rt need-gcc need-cargo
 # Folders too, as a file that went changes its folder alone.
 sources := crates.txt $(shell find crates)
@@ -28,14 +29,14 @@ $(tools): need-%:
 	@command -v $* >/dev/null || { echo "missing: $*" >&2; exit 1; }
 
 # The prover knows what it has proved, and leaves that as it is: touched, the file is newer than all that it was asked about.
-target/bin/mpl_list: $(sources) | need-rt
+target/bin/mpl_list target/bin/mpl_list6: target/bin/%: $(sources) | need-rt
 	@echo "proving, about two minutes" >&2
-	@rt check mpl_list >/dev/null || { echo "mpl_list is not proved: rt check mpl_list says why" >&2; exit 1; }
+	@rt check $* >/dev/null || { echo "$* is not proved: rt check $* says why" >&2; exit 1; }
 	@touch $@
 
 $(lib): $(sources) | need-rt need-gcc
 	rt staticlib mpl
 
-target/bin/mpl_shim target/bin/mpl_replay target/bin/mpl_limits: target/bin/mpl_%: shim/%.c shim/files.c shim/files.h include/mpl.h $(lib)
+$(programs): target/bin/mpl_%: shim/%.c shim/files.c shim/files.h include/mpl.h $(lib)
 	@mkdir -p target/bin
 	$(gcc) $(filter %.c,$^) $(lib) -o $@

@@ -1,6 +1,6 @@
 /*
  * The checker of media command batches, of runs and of gateway recordings, for C on x86-64. Link libmpl.a (`rt staticlib mpl`); it needs
- * memcpy and memset. shim/shim.c and shim/replay.c are examples.
+ * memcpy and memset. shim/shim.c and shim/replay.c are examples. Both checks are for Gen6 and for Gen7: the caller names the chip.
  *
  * What a caller owes: each pointer is valid for its length, in elements; it may be null only where that length is 0; pointers to uint32_t
  * are aligned, those to bytes need not be; no two buffers of a call overlap; during the call nobody else writes them, or reads those that
@@ -33,30 +33,40 @@ extern "C" {
 #endif
 
 /*
- * Why a batch is turned away. Asked in this order: 17; 1; command by command 3 to 9, the lowest number of the first faulty one; 2 where the
- * batch ends without END; 10. A place counts dwords from the start of the batch; "the command" is its first dword.
+ * The chips. They differ in their must-be-zero bits (number 6: those of the chip's own manual) and in MEDIA_GATEWAY_STATE, which Gen6 alone
+ * knows. All else that stands below is of both.
+ */
+enum {
+    MPL_GEN6 = 6,
+    MPL_GEN7 = 7
+};
+
+/*
+ * Why a batch is turned away. Asked in this order: 18; 17; 1; command by command 3 to 9, the lowest number of the first faulty one; 2 where
+ * the batch ends without END; 10. A place counts dwords from the start of the batch; "the command" is its first dword.
  */
 enum {
     MPL_ACCEPTED = 0,
     MPL_TOO_LONG = 1,           /* over 16,384 dwords; place 0 */
     MPL_NO_END = 2,             /* slice used up before END; place: its length */
-    MPL_UNKNOWN_COMMAND = 3,    /* header's type and opcodes of none of the kinds below; place: the command */
+    MPL_UNKNOWN_COMMAND = 3,    /* header's type and opcodes of none of the chip's kinds below; place: the command */
     MPL_LENGTH_FIELD = 4,       /* length field not the kind's own, or an OBJECT's under 4; place: the command */
     MPL_RUNS_PAST = 5,          /* command runs past the slice; place: the command */
-    MPL_MUST_BE_ZERO = 6,       /* a must-be-zero bit is set; place: the first such dword */
+    MPL_MUST_BE_ZERO = 6,       /* a must-be-zero bit of the chip is set; place: the first such dword */
     MPL_LOAD_FIELDS = 7,        /* load length or address not a multiple of 32, or descriptor length outside 32 to 2,048; place: the first
                                    such dword */
     MPL_ORDER = 8,              /* order, below; place: the command */
     MPL_TOO_LARGE = 9,          /* VFE: entries x entry size + CURBE size over capacity; CURBE load: length over 32 x CURBE size in force;
                                    place: the command */
     MPL_RECORD_ROOM = 10,       /* all commands pass, but the record buffer has fewer than 16 words per command; place: dwords read */
-    MPL_PART_OF_A_DWORD = 17    /* byte entries only, before all others: not a multiple of 4 bytes; place: whole dwords */
+    MPL_PART_OF_A_DWORD = 17,   /* byte entries only, before all others but 18: not a multiple of 4 bytes; place: whole dwords */
+    MPL_UNKNOWN_CHIP = 18       /* chip neither 6 nor 7, before all others; place 0 */
 };
 
 /*
- * Order, number 8: CURBE load, descriptor load and OBJECT need an earlier VFE. A VFE needs that none of VFE, CURBE load, descriptor load
- * and OBJECT stands since the last MI_FLUSH or the start; a descriptor load, that no OBJECT stands since the last MI_FLUSH or state flush.
- * An OBJECT's descriptor index is below the count last loaded.
+ * Order, number 8: CURBE load, descriptor load, OBJECT and gateway state need an earlier VFE. A VFE needs that none of these four and no
+ * VFE stands since the last MI_FLUSH or the start; a descriptor load, that no OBJECT stands since the last MI_FLUSH or state flush. An
+ * OBJECT's descriptor index is below the count last loaded.
  */
 
 /* Kinds of command, in word 0 of a record. */
@@ -68,7 +78,8 @@ enum {
     MPL_CURBE_LOAD = 4,         /* 0x70010002, 4 dwords */
     MPL_DESCRIPTOR_LOAD = 5,    /* 0x70020002, 4 dwords */
     MPL_STATE_FLUSH = 6,        /* 0x70040000, 2 dwords */
-    MPL_OBJECT = 7              /* 0x7100nnnn, nnnn from 4, nnnn + 2 dwords */
+    MPL_OBJECT = 7,             /* 0x7100nnnn, nnnn from 4, nnnn + 2 dwords */
+    MPL_GATEWAY_STATE = 8       /* 0x70030000, 2 dwords; Gen6 only: on Gen7 it is 3, whatever its length field */
 };
 
 enum {
@@ -99,6 +110,7 @@ enum {                              /* MPL_CURBE_LOAD, MPL_DESCRIPTOR_LOAD */
     MPL_LOAD_ADDRESS = 4
 };
 enum { MPL_STATE_FLUSH_DWORD_1 = 3 };
+enum { MPL_GATEWAY_STATE_DWORD_1 = 3 }; /* 23:16 barrier, 15:8 its byte, 7:0 its thread count */
 enum {                              /* MPL_OBJECT */
     MPL_OBJECT_INDEX = 3,           /* descriptor index */
     MPL_OBJECT_USES_SCOREBOARD = 4, /* its own bit, 0 or 1 */
@@ -121,23 +133,25 @@ struct mpl_batch {
 };
 
 /*
- * May the chip read this batch? Lent: the batch, to read; `records`, to write, 16 words a command (16 for each dword of the batch are
- * always enough). capacity is the lent URB capacity in 256-bit rows.
+ * May the chip read this batch? `chip` is MPL_GEN6 or MPL_GEN7. Lent: the batch, to read; `records`, to write, 16 words a command (16 for
+ * each dword of the batch are always enough). capacity is the lent URB capacity in 256-bit rows.
  * Accepted: `commands` records of 16 words stand in `records`, in the batch's order; `dwords` were read, END included; every other
- * word of `records` is as it was. Refused, with 1 to 10: `records` is as it was, all of it. The batch is never written.
+ * word of `records` is as it was. Refused, with 1 to 10 or 18: `records` is as it was, all of it. The batch is never written.
  */
-struct mpl_batch mpl_check_batch_dwords(const uint32_t *batch, size_t batch_len, uint32_t capacity, uint32_t *records, size_t records_len);
+struct mpl_batch mpl_check_batch_dwords(uint32_t chip, const uint32_t *batch, size_t batch_len, uint32_t capacity, uint32_t *records,
+                                        size_t records_len);
 
 /*
  * The same over little-endian bytes, lengths in bytes: records of 64 bytes, their words little-endian; also 17, on which `records`
  * is as it was too. A tail of `records` under 64 bytes is no fault.
  */
-struct mpl_batch mpl_check_batch(const uint8_t *batch, size_t batch_len, uint32_t capacity, uint8_t *records, size_t records_len);
+struct mpl_batch mpl_check_batch(uint32_t chip, const uint8_t *batch, size_t batch_len, uint32_t capacity, uint8_t *records,
+                                 size_t records_len);
 
 /*
- * Why a run is turned away; 1 to 10 and 17 are the batch's, 17 also the run's. 22, 24 and 25 are of a start, 23 of a finish; "it" is the
- * object started. An object uses a scoreboard where its own bit and its VFE's enable are both set. It waits for each object before it in
- * the batch that is unfinished, uses a scoreboard, has its colour, and whose X and Y are its own plus a delta in play, as whole numbers.
+ * Why a run is turned away; 1 to 10, 17 and 18 are the batch's, 17 also the run's. 22, 24 and 25 are of a start, 23 of a finish; "it" is
+ * the object started. An object uses a scoreboard where its own bit and its VFE's enable are both set. It waits for each object before it
+ * in the batch that is unfinished, uses a scoreboard, has its colour, and whose X and Y are its own plus a delta in play, as whole numbers.
  */
 enum {
     MPL_FEW_STATES = 20,        /* fewer state bytes than objects; place 0 */
@@ -157,7 +171,7 @@ enum {
 
 /*
  * number 0: the run was taken to its end, and place is its event count. 21 to 25: place is the bad event's position in the run, from 0.
- * 1 to 10: as mpl_batch, place in the batch. 17: place is the whole dwords of the batch or, if the batch has no part of a dword, of
+ * 1 to 10 and 18: as mpl_batch, place in the batch. 17: place is the whole dwords of the batch or, if the batch has no part of a dword, of
  * the run. object and delta are 0 where the number names none.
  */
 struct mpl_order {
@@ -170,17 +184,17 @@ struct mpl_order {
  * batch is always enough). The batch is checked first, as above.
  * 0 and 21 to 25: `records` holds the batch's records, as mpl_check_batch_dwords leaves them; states[k] is the state of object k, which
  * begins MPL_WAITING, after the last event that passed; state bytes past the objects are as they were.
- * 1 to 10 and 20: `records` and `states` are as they were, all of them. Batch and run are never written.
+ * 1 to 10, 18 and 20: `records` and `states` are as they were, all of them. Batch and run are never written.
  */
-struct mpl_order mpl_check_order_dwords(const uint32_t *batch, size_t batch_len, uint32_t capacity, const uint32_t *run, size_t run_len,
-                                        uint32_t *records, size_t records_len, uint8_t *states, size_t states_len);
+struct mpl_order mpl_check_order_dwords(uint32_t chip, const uint32_t *batch, size_t batch_len, uint32_t capacity, const uint32_t *run,
+                                        size_t run_len, uint32_t *records, size_t records_len, uint8_t *states, size_t states_len);
 
 /*
- * The same over little-endian bytes, lengths in bytes; also 17, of the batch, then of the run, before all others, on which nothing is
- * changed either.
+ * The same over little-endian bytes, lengths in bytes; also 17, of the batch, then of the run, before all others but 18, on which nothing
+ * is changed either.
  */
-struct mpl_order mpl_check_order(const uint8_t *batch, size_t batch_len, uint32_t capacity, const uint8_t *run, size_t run_len,
-                                 uint8_t *records, size_t records_len, uint8_t *states, size_t states_len);
+struct mpl_order mpl_check_order(uint32_t chip, const uint8_t *batch, size_t batch_len, uint32_t capacity, const uint8_t *run,
+                                 size_t run_len, uint8_t *records, size_t records_len, uint8_t *states, size_t states_len);
 
 /* A recording: a header of 10 bytes, a group byte a thread, then its events. 16-bit numbers have the low byte first. */
 enum {                                  /* bytes of the header; 0 to 2 hold the mark, "GWR" */

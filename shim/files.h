@@ -20,7 +20,7 @@ struct buffer {
 /* Says on standard error what went wrong, and answers false for the caller to hand on. */
 bool complain(const char *what, const char *why);
 
-/* --help alone is a question; any other first argument is a file's name. */
+/* --help alone is a question. */
 bool asks_for_help(int argc, char **argv);
 int give_help(void);
 

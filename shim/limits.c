@@ -1,7 +1,8 @@
 /*
  * What a call can take, for the author of a driver: how far below the caller's stack pointer it writes, and how long it lasts, each on the
- * input that took longest of those tried at the library's limits. Stack counts what the caller pushes for the call, the return address and
- * all that is written below, the red zone too. It is seen by painting the stack before the call, and so only up to the lowest byte written.
+ * input that took longest of those tried at the library's limits, for each chip where the caller names one. Stack counts what the caller
+ * pushes for the call, the return address and all that is written below, the red zone too. It is seen by painting the stack before the
+ * call, and so only up to the lowest byte written.
  * Exit status: 0 every call keeps to the stack that mpl.h names; 1 one does not; 2 not measured or written, and standard error says why.
  */
 #define _XOPEN_SOURCE 700 /* clock_gettime, makecontext */
@@ -19,7 +20,7 @@ const char statuses[] = "exit status: 0 as mpl.h says; 1 a call takes more stack
 
 enum { TURNS = 20, MOST = MPL_BATCH_DWORDS_MOST, EVENTS = UINT16_MAX, PAIR = 2, CAPACITY = 2048 };
 
-static uint32_t batch[MOST], records[MOST * MPL_RECORD_WORDS], run[MOST];
+static uint32_t chip, batch[MOST], records[MOST * MPL_RECORD_WORDS], run[MOST];
 static size_t dwords, run_len;
 static uint8_t states[MOST], outcomes[EVENTS], registers[MPL_THREADS_MOST * MPL_THREAD_REGISTER_BYTES];
 static uint8_t recording[MPL_RECORDING_GROUPS_AT + MPL_THREADS_MOST + MPL_EVENT_BYTES * EVENTS];
@@ -48,17 +49,6 @@ static void put_each_to_end(uint32_t command)
     batch[dwords++] = 0x05000000; /* END */
 }
 
-/* Every dword a command, and none the same as the one before, so that no loop takes two of them. */
-static void fill_single(void)
-{
-    dwords = 0;
-    while (dwords < MOST - 1) {
-        batch[dwords] = dwords % 2 == 0 ? 0x02000000 : 0; /* MI_FLUSH, no-op */
-        dwords++;
-    }
-    put_each_to_end(0);
-}
-
 /* Type 1, all eight deltas in play: seven times (1, 1), then (-1, 1). */
 static void put_scoreboard(void)
 {
@@ -66,6 +56,29 @@ static void put_scoreboard(void)
     static const uint32_t descriptor_load[] = {0x70020002, 0, 32, 0x1000};
     put(vfe, sizeof vfe / sizeof vfe[0]);
     put(descriptor_load, sizeof descriptor_load / sizeof descriptor_load[0]);
+}
+
+/* The chip's kinds at random, as no processor foresees which comes next; VFE and OBJECT aside, as with them batches took less time. */
+static void fill_kinds(void)
+{
+    static const struct {
+        size_t len;
+        uint32_t dwords[4];
+    } kinds[] = {
+        {1, {0}},                         /* no-op */
+        {1, {0x02000000}},                /* MI_FLUSH */
+        {2, {0x70040000, 0}},             /* state flush */
+        {4, {0x70010002, 0, 32, 0x1000}}, /* CURBE load */
+        {4, {0x70020002, 0, 32, 0x1000}}, /* descriptor load */
+        {2, {0x70030000, 0x00030201}},    /* gateway state, of Gen6 alone */
+    };
+    dwords = 0;
+    put_scoreboard();
+    while (dwords + 4 < MOST) {
+        uint32_t kind = random_below(chip == MPL_GEN6 ? 6 : 5);
+        put(kinds[kind].dwords, kinds[kind].len);
+    }
+    put_each_to_end(0); /* no-ops */
 }
 
 /*
@@ -130,27 +143,28 @@ static uint8_t *at_call;
 static uint64_t ask_batch(void)
 {
     MARK();
-    return mpl_check_batch((uint8_t *)batch, 4 * dwords, CAPACITY, (uint8_t *)records, sizeof records).number;
+    return mpl_check_batch(chip, (uint8_t *)batch, 4 * dwords, CAPACITY, (uint8_t *)records, sizeof records).number;
 }
 
 static uint64_t ask_batch_dwords(void)
 {
     MARK();
-    return mpl_check_batch_dwords(batch, dwords, CAPACITY, records, sizeof records / sizeof records[0]).number;
+    return mpl_check_batch_dwords(chip, batch, dwords, CAPACITY, records, sizeof records / sizeof records[0]).number;
 }
 
 static uint64_t ask_order(void)
 {
     MARK();
-    return mpl_check_order((uint8_t *)batch, 4 * dwords, CAPACITY, (uint8_t *)run, 4 * run_len, (uint8_t *)records, sizeof records, states,
-                           sizeof states)
+    return mpl_check_order(chip, (uint8_t *)batch, 4 * dwords, CAPACITY, (uint8_t *)run, 4 * run_len, (uint8_t *)records, sizeof records,
+                           states, sizeof states)
         .number;
 }
 
 static uint64_t ask_order_dwords(void)
 {
     MARK();
-    return mpl_check_order_dwords(batch, dwords, CAPACITY, run, run_len, records, sizeof records / sizeof records[0], states, sizeof states)
+    return mpl_check_order_dwords(chip, batch, dwords, CAPACITY, run, run_len, records, sizeof records / sizeof records[0], states,
+                                  sizeof states)
         .number;
 }
 
@@ -169,19 +183,24 @@ static uint64_t ask_in_play(void)
     return mpl_deltas_in_play(1u << 21, 0x800000ff, 0xff).count != 8;
 }
 
-/* stack_most: the bytes that mpl.h names. */
+/* chip: 0 where the call names none. stack_most: the bytes that mpl.h names. */
 static const struct subject {
     const char *name, *input;
+    uint32_t chip;
     void (*fill)(void);
     uint64_t (*ask)(void);
     size_t stack_most;
 } subjects[] = {
-    {"mpl_check_batch", "MI_FLUSHes, no-ops in turn", fill_single, ask_batch, 512},
-    {"mpl_check_batch_dwords", "MI_FLUSHes, no-ops in turn", fill_single, ask_batch_dwords, 512},
-    {"mpl_check_order", "2,728 OBJECTs, none finished", fill_objects, ask_order, 1024},
-    {"mpl_check_order_dwords", "2,728 OBJECTs, none finished", fill_objects, ask_order_dwords, 1024},
-    {"mpl_replay", "65,535 barriers and forwards", fill_events, ask_replay, 1024},
-    {"mpl_deltas_in_play", "all eight", fill_nothing, ask_in_play, 64},
+    {"mpl_check_batch", "six kinds at random", MPL_GEN6, fill_kinds, ask_batch, 512},
+    {"mpl_check_batch", "five kinds at random", MPL_GEN7, fill_kinds, ask_batch, 512},
+    {"mpl_check_batch_dwords", "six kinds at random", MPL_GEN6, fill_kinds, ask_batch_dwords, 512},
+    {"mpl_check_batch_dwords", "five kinds at random", MPL_GEN7, fill_kinds, ask_batch_dwords, 512},
+    {"mpl_check_order", "2,728 OBJECTs, none finished", MPL_GEN6, fill_objects, ask_order, 1024},
+    {"mpl_check_order", "2,728 OBJECTs, none finished", MPL_GEN7, fill_objects, ask_order, 1024},
+    {"mpl_check_order_dwords", "2,728 OBJECTs, none finished", MPL_GEN6, fill_objects, ask_order_dwords, 1024},
+    {"mpl_check_order_dwords", "2,728 OBJECTs, none finished", MPL_GEN7, fill_objects, ask_order_dwords, 1024},
+    {"mpl_replay", "65,535 barriers and forwards", 0, fill_events, ask_replay, 1024},
+    {"mpl_deltas_in_play", "all eight", 0, fill_nothing, ask_in_play, 64},
 };
 
 /* A call on a stack of its own. */
@@ -242,13 +261,15 @@ static double time_of(const struct subject *subject)
 /* An input that is refused says nothing of the limits. The call that asks also binds memcpy and memset, which would show as stack. */
 static int measure(const struct subject *subject)
 {
+    chip = subject->chip;
     subject->fill();
     if (subject->ask() != 0) {
         complain(subject->name, "its input is refused");
         return FAILED;
     }
     size_t bytes = stack_of(subject);
-    printf("| %-22s | %-28s | %11zu | %12.1f |\n", subject->name, subject->input, bytes, time_of(subject));
+    char named = chip != 0 ? (char)('0' + chip) : '-';
+    printf("| %-22s | %4c | %-28s | %11zu | %12.1f |\n", subject->name, named, subject->input, bytes, time_of(subject));
     return bytes > subject->stack_most ? REFUSED : DONE;
 }
 
@@ -260,8 +281,8 @@ int main(int argc, char **argv)
         fputs(usage, stderr);
         return FAILED;
     }
-    puts("| call                   | input                        | stack bytes | microseconds |");
-    puts("| ---                    | ---                          |         --: |          --: |");
+    puts("| call                   | chip | input                        | stack bytes | microseconds |");
+    puts("| ---                    |  --: | ---                          |         --: |          --: |");
     int status = DONE;
     for (size_t i = 0; i < sizeof subjects / sizeof subjects[0]; i++) {
         int more = measure(&subjects[i]);

@@ -1,10 +1,12 @@
 /*
- * The shim as a program: lends buffers, asks both checks about a batch and a run, and says what their numbers and places mean.
+ * The shim as a program: names the chip, lends buffers, asks both checks about a batch and a run, and says what their numbers and places
+ * mean.
  * Exit status: 0 both accept; 1 one refuses; 2 they were not asked, or what they answered not written, and standard error says why.
  */
 #include <inttypes.h>
 #include <stdio.h>
 #include <stdlib.h>
+#include <string.h>
 
 #include "files.h"
 #include "mpl.h"
@@ -13,7 +15,8 @@
 enum { FILE_BYTES_MOST = 1 << 20 };
 
 const char program[] = "mpl_shim";
-const char usage[] = "usage: mpl_shim BATCH RUN [CAPACITY]\n"
+const char usage[] = "usage: mpl_shim [-6] BATCH RUN [CAPACITY]\n"
+                     "-6: the chip is Gen6, else it is Gen7\n"
                      "BATCH, RUN: files of little-endian dwords, at most 1 MiB; CAPACITY: of the URB, in 256-bit rows (2048)\n";
 const char statuses[] = "exit status: 0 both checks accept; 1 one refuses; 2 not asked, or answers not written: standard error says why\n";
 static const uint32_t usual_capacity = 2048;
@@ -39,6 +42,7 @@ static const struct meaning meanings[] = {
     {MPL_TOO_LARGE, "a VFE exceeds the capacity, or a CURBE load the CURBE size in force", COMMAND},
     {MPL_RECORD_ROOM, "fewer than 16 words of record buffer per command", "dwords read"},
     {MPL_PART_OF_A_DWORD, "batch not a multiple of 4 bytes", "its whole dwords"},
+    {MPL_UNKNOWN_CHIP, "chip neither 6 nor 7", "always 0"},
     {MPL_FEW_STATES, "fewer state bytes than objects", "always 0"},
     {MPL_NO_SUCH_OBJECT, "no such object", EVENT},
     {MPL_NOT_WAITING, "start of an object that is not waiting", EVENT},
@@ -162,13 +166,13 @@ static bool run_was_begun(uint64_t number)
     return number == MPL_ACCEPTED || (number >= MPL_NO_SUCH_OBJECT && number <= MPL_WAITS);
 }
 
-static int ask(const struct lent *lent, uint32_t capacity)
+static int ask(uint32_t chip, const struct lent *lent, uint32_t capacity)
 {
     struct mpl_batch batch =
-        mpl_check_batch(lent->batch.bytes, lent->batch.len, capacity, lent->records.bytes, lent->records.len);
+        mpl_check_batch(chip, lent->batch.bytes, lent->batch.len, capacity, lent->records.bytes, lent->records.len);
     print_batch(&batch);
     struct mpl_order order =
-        mpl_check_order(lent->batch.bytes, lent->batch.len, capacity, lent->run.bytes, lent->run.len,
+        mpl_check_order(chip, lent->batch.bytes, lent->batch.len, capacity, lent->run.bytes, lent->run.len,
                         lent->records.bytes, lent->records.len, lent->states.bytes, lent->states.len);
     print_order(&order, batch.number != MPL_PART_OF_A_DWORD);
     if (run_was_begun(order.number))
@@ -185,17 +189,44 @@ static bool read_capacity(const char *text, uint32_t *capacity)
     return text[0] >= '0' && text[0] <= '9' && *end == '\0' && rows <= UINT32_MAX;
 }
 
+struct asked {
+    uint32_t chip, capacity;
+    const char *batch, *run;
+};
+
+/* A dash alone is a file's name. */
+static bool is_option(const char *argument)
+{
+    return argument[0] == '-' && argument[1] != '\0';
+}
+
+/* -6 is the only option. A file whose name begins with a dash is given as ./-name. */
+static bool read_arguments(int argc, char **argv, struct asked *asked)
+{
+    bool option = argc > 1 && is_option(argv[1]);
+    if (option && strcmp(argv[1], "-6") != 0)
+        return complain(argv[1], "not an option before BATCH");
+    int first = option ? 2 : 1;
+    int given = argc - first;
+    if (given < 2 || given > 3)
+        return false;
+    asked->chip = option ? MPL_GEN6 : MPL_GEN7;
+    asked->batch = argv[first];
+    asked->run = argv[first + 1];
+    return given == 2 || read_capacity(argv[first + 2], &asked->capacity);
+}
+
 int main(int argc, char **argv)
 {
     if (asks_for_help(argc, argv))
         return give_help();
-    uint32_t capacity = usual_capacity;
-    if (argc < 3 || argc > 4 || (argc == 4 && !read_capacity(argv[3], &capacity))) {
+    struct asked asked = {.capacity = usual_capacity};
+    if (!read_arguments(argc, argv, &asked)) {
         fputs(usage, stderr);
         return FAILED;
     }
     struct lent lent = {0};
-    int status = make_lent(&lent, argv[1], argv[2]) ? ask(&lent, capacity) : FAILED;
+    int status = make_lent(&lent, asked.batch, asked.run) ? ask(asked.chip, &lent, asked.capacity) : FAILED;
     free_lent(&lent);
     return status;
 }

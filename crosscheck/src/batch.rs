@@ -1,10 +1,11 @@
 //! The batch check: sections "The command words" and "Why a batch is turned
-//! away" of document 01.
+//! away" of document 01, for both chips of document 02.
 //!
 //! The first pass judges and writes nothing; the second decodes what the first
-//! accepted. Inline data is stepped over, and nothing after END is read.
+//! accepted. Inline data is stepped over, and nothing after END is read. Each chip
+//! has code of its own: what tells them apart is known when it is compiled.
 
-use crate::masks::{self, Masks};
+use crate::masks::{Masks, Table, GEN6, GEN7};
 use std::ops::Range;
 
 /// The longest batch, in dwords (rule 1).
@@ -21,6 +22,8 @@ pub const END: u32 = 0x0500_0000;
 pub const VFE: u32 = 0x7000;
 pub const CURBE: u32 = 0x7001;
 pub const DESCRIPTOR: u32 = 0x7002;
+/// MEDIA_GATEWAY_STATE, Gen6 alone.
+pub const GATEWAY: u32 = 0x7003;
 pub const STATE_FLUSH: u32 = 0x7004;
 pub const OBJECT: u32 = 0x7100;
 
@@ -58,38 +61,80 @@ impl Answer {
     }
 }
 
+/// Whether a caller's number names a chip; else it is refused with 18.
+pub fn known(chip: u32) -> bool {
+    matches!(chip, 6 | 7)
+}
+
+/// What tells the chips apart.
+pub(crate) trait Chip {
+    const MASKS: &'static Table;
+    /// Whether MEDIA_GATEWAY_STATE is a command.
+    const HAS_GATEWAY: bool;
+}
+
+pub(crate) struct Gen6;
+
+impl Chip for Gen6 {
+    const MASKS: &'static Table = &GEN6;
+    const HAS_GATEWAY: bool = true;
+}
+
+pub(crate) struct Gen7;
+
+impl Chip for Gen7 {
+    const MASKS: &'static Table = &GEN7;
+    const HAS_GATEWAY: bool = false;
+}
+
 /// The batch check over dwords.
-pub fn check(batch: &[u32], capacity: u32, records: &mut [u32]) -> Answer {
-    check_words(batch, capacity, records.as_chunks_mut().0)
+pub fn check(chip: u32, batch: &[u32], capacity: u32, records: &mut [u32]) -> Answer {
+    check_words(chip, batch, capacity, records.as_chunks_mut().0)
 }
 
 /// The batch check over little-endian bytes; a record takes 64 of them.
-pub fn check_bytes(batch: &[u8], capacity: u32, records: &mut [u8]) -> Answer {
+pub fn check_bytes(chip: u32, batch: &[u8], capacity: u32, records: &mut [u8]) -> Answer {
     let (words, tail) = batch.as_chunks::<4>();
-    if !tail.is_empty() {
+    // 18 comes before 17.
+    if !tail.is_empty() && known(chip) {
         return Answer::refused(17, words.len());
     }
     let (record_words, _) = records.as_chunks_mut::<4>();
-    check_words(words, capacity, record_words.as_chunks_mut().0)
+    check_words(chip, words, capacity, record_words.as_chunks_mut().0)
 }
 
-fn check_words<W: Word>(batch: &[W], capacity: u32, records: &mut [[W; RECORD]]) -> Answer {
-    match admit(batch, capacity, records) {
+fn check_words<W: Word>(
+    chip: u32,
+    batch: &[W],
+    capacity: u32,
+    records: &mut [[W; RECORD]],
+) -> Answer {
+    match chip {
+        7 => check_for::<Gen7, W>(batch, capacity, records),
+        6 => check_for::<Gen6, W>(batch, capacity, records),
+        _ => Answer::refused(18, 0),
+    }
+}
+
+fn check_for<C: Chip, W: Word>(batch: &[W], capacity: u32, records: &mut [[W; RECORD]]) -> Answer {
+    match admit::<C, W>(batch, capacity, records) {
         Ok((accepted, records)) => {
-            decode(batch, records);
+            decode::<C, W>(batch, records);
             Answer::accepted(accepted.commands, accepted.dwords)
         }
         Err(refusal) => Answer::refused(refusal.number, refusal.place),
     }
 }
 
-/// Rules 1 to 10. Writes nothing; gives the records that `decode` is to fill.
-pub(crate) fn admit<'a, W: Word>(
+/// Rules 1 to 10. Writes nothing; gives the records that `decode` is to fill. Both checks
+/// call it, so that each chip's code stands once.
+#[inline(never)]
+pub(crate) fn admit<'a, C: Chip, W: Word>(
     batch: &[W],
     capacity: u32,
     records: &'a mut [[W; RECORD]],
 ) -> Result<(Accepted, &'a mut [[W; RECORD]]), Refusal> {
-    let accepted = judge(batch, capacity)?;
+    let accepted = judge::<C, W>(batch, capacity)?;
     match records.get_mut(..accepted.commands) {
         Some(records) => Ok((accepted, records)),
         None => refuse(10, accepted.dwords),
@@ -141,7 +186,7 @@ fn refuse<T>(number: u64, place: usize) -> Result<T, Refusal> {
 struct State {
     /// A VFE stands earlier.
     vfe: bool,
-    /// A command of kind 3, 4, 5 or 7 stands since the last MI_FLUSH or the start.
+    /// A command of kind 3, 4, 5, 7 or 8 stands since the last MI_FLUSH or the start.
     in_use: bool,
     /// An OBJECT stands since the last MI_FLUSH or state flush.
     objects_stand: bool,
@@ -154,24 +199,30 @@ struct State {
 }
 
 /// First pass: rules 1 to 9. Writes nothing.
-fn judge<W: Word>(batch: &[W], capacity: u32) -> Result<Accepted, Refusal> {
+fn judge<C: Chip, W: Word>(batch: &[W], capacity: u32) -> Result<Accepted, Refusal> {
     if batch.len() > LIMIT {
         return refuse(1, 0);
     }
-    read(batch, capacity, |_| {})
+    read::<C, W>(batch, capacity, |_| {})
 }
 
-/// The inline data of every OBJECT passed, whatever rules 1, 10 and 17 say.
-pub fn passed_inline_data(batch: &[u32], capacity: u32) -> Vec<Range<usize>> {
+/// The inline data of every OBJECT passed, whatever rules 1, 10 and 17 say. A chip
+/// that is not known passes none.
+pub fn passed_inline_data(chip: u32, batch: &[u32], capacity: u32) -> Vec<Range<usize>> {
     let mut found = Vec::new();
+    let passed = |inline| found.push(inline);
     // A fault stops the reading, as END and the slice's end do.
-    let _ = read(batch, capacity, |inline| found.push(inline));
+    let _ = match chip {
+        7 => read::<Gen7, u32>(batch, capacity, passed),
+        6 => read::<Gen6, u32>(batch, capacity, passed),
+        _ => refuse(18, 0),
+    };
     found
 }
 
 /// Rules 2 to 9, command by command. Tells `passed` where the inline data of each
 /// OBJECT passed stands.
-fn read<W: Word>(
+fn read<C: Chip, W: Word>(
     batch: &[W],
     capacity: u32,
     mut passed: impl FnMut(Range<usize>),
@@ -191,7 +242,7 @@ fn read<W: Word>(
             // where the next one begins is known before it is read.
             OBJECT => loop {
                 let place = batch.len() - rest.len();
-                let next = object(rest, header, place, &mut state)?;
+                let next = object::<C, W>(rest, header, place, &mut state)?;
                 passed(place + OBJECT_FIXED..batch.len() - next.len());
                 match next.first() {
                     Some(first) if first.get() == header => rest = next,
@@ -199,14 +250,21 @@ fn read<W: Word>(
                 }
                 commands += 1;
             },
-            VFE => vfe(rest, header, place, &mut state, capacity)?,
-            CURBE => curbe(rest, header, place, &mut state)?,
-            DESCRIPTOR => descriptor(rest, header, place, &mut state)?,
+            VFE => vfe::<C, W>(rest, header, place, &mut state, capacity)?,
+            CURBE => curbe::<C, W>(rest, header, place, &mut state)?,
+            DESCRIPTOR => descriptor::<C, W>(rest, header, place, &mut state)?,
             STATE_FLUSH => {
                 let (command, next) = fixed::<W, 2>(rest, header, place)?;
-                must_be_zero(command, &masks::STATE_FLUSH, place)?;
+                must_be_zero(command, &C::MASKS.state_flush, place)?;
                 state.objects_stand = false;
                 next
+            }
+            GATEWAY if C::HAS_GATEWAY => {
+                let next = gateway::<C, W>(rest, header, place, &mut state)?;
+                // Barriers are set up one after the other.
+                let more = more_gateways::<C, W>(next, header);
+                commands += more;
+                &next[2 * more..]
             }
             // Kinds 0 to 2 match as a whole dword.
             _ => match header {
@@ -236,7 +294,7 @@ fn read<W: Word>(
 
 type Judged<'a, W> = Result<&'a [W], Refusal>;
 
-fn object<'a, W: Word>(
+fn object<'a, C: Chip, W: Word>(
     rest: &'a [W],
     header: u32,
     place: usize,
@@ -250,7 +308,7 @@ fn object<'a, W: Word>(
         return refuse(5, place);
     };
     let command = whole::<W, OBJECT_FIXED>(command);
-    must_be_zero(command, &masks::OBJECT, place)?;
+    must_be_zero(command, &C::MASKS.object, place)?;
     // A load needs a VFE, so a count above the index means that one stands earlier.
     if command[1].get() & 0x3f >= state.descriptors {
         return refuse(8, place);
@@ -261,7 +319,7 @@ fn object<'a, W: Word>(
     Ok(next)
 }
 
-fn vfe<'a, W: Word>(
+fn vfe<'a, C: Chip, W: Word>(
     rest: &'a [W],
     header: u32,
     place: usize,
@@ -269,7 +327,7 @@ fn vfe<'a, W: Word>(
     capacity: u32,
 ) -> Judged<'a, W> {
     let (command, next) = fixed::<W, 8>(rest, header, place)?;
-    must_be_zero(command, &masks::VFE, place)?;
+    must_be_zero(command, &C::MASKS.vfe, place)?;
     if state.in_use {
         return refuse(8, place);
     }
@@ -286,14 +344,14 @@ fn vfe<'a, W: Word>(
     Ok(next)
 }
 
-fn curbe<'a, W: Word>(
+fn curbe<'a, C: Chip, W: Word>(
     rest: &'a [W],
     header: u32,
     place: usize,
     state: &mut State,
 ) -> Judged<'a, W> {
     let (command, next) = fixed::<W, 4>(rest, header, place)?;
-    must_be_zero(command, &masks::CURBE, place)?;
+    must_be_zero(command, &C::MASKS.curbe, place)?;
     let length = command[2].get() & 0x1_ffff;
     if !length.is_multiple_of(32) {
         return refuse(7, place + 2);
@@ -311,14 +369,14 @@ fn curbe<'a, W: Word>(
     Ok(next)
 }
 
-fn descriptor<'a, W: Word>(
+fn descriptor<'a, C: Chip, W: Word>(
     rest: &'a [W],
     header: u32,
     place: usize,
     state: &mut State,
 ) -> Judged<'a, W> {
     let (command, next) = fixed::<W, 4>(rest, header, place)?;
-    must_be_zero(command, &masks::DESCRIPTOR, place)?;
+    must_be_zero(command, &C::MASKS.descriptor, place)?;
     let length = command[2].get() & 0x1_ffff;
     if !length.is_multiple_of(32) || !(32..=2048).contains(&length) {
         return refuse(7, place + 2);
@@ -332,6 +390,29 @@ fn descriptor<'a, W: Word>(
     state.in_use = true;
     state.descriptors = length / 32;
     Ok(next)
+}
+
+fn gateway<'a, C: Chip, W: Word>(
+    rest: &'a [W],
+    header: u32,
+    place: usize,
+    state: &mut State,
+) -> Judged<'a, W> {
+    let (command, next) = fixed::<W, 2>(rest, header, place)?;
+    must_be_zero(command, &C::MASKS.gateway, place)?;
+    if !state.vfe {
+        return refuse(8, place);
+    }
+    state.in_use = true;
+    Ok(next)
+}
+
+/// How many sound commands of the same header follow one that has passed.
+fn more_gateways<C: Chip, W: Word>(rest: &[W], header: u32) -> usize {
+    let sound = |[first, dword]: &&[W; 2]| {
+        (first.get() ^ header) | (dword.get() & C::MASKS.gateway[1]) == 0
+    };
+    rest.as_chunks().0.iter().take_while(sound).count()
 }
 
 fn length_field(header: u32) -> usize {
@@ -383,8 +464,10 @@ fn whole<W: Word, const N: usize>(command: &[W]) -> &[W; N] {
     command.first_chunk().expect("a command judged whole")
 }
 
-/// Second pass: fills one record per command of a batch that `judge` accepted.
-pub(crate) fn decode<W: Word>(batch: &[W], records: &mut [[W; RECORD]]) {
+/// Second pass: fills one record per command of a batch that `judge` accepted. Once for
+/// both checks, as `admit`.
+#[inline(never)]
+pub(crate) fn decode<C: Chip, W: Word>(batch: &[W], records: &mut [[W; RECORD]]) {
     let commands = records.len();
     let mut records = records.iter_mut();
     let mut rest = batch;
@@ -436,6 +519,18 @@ pub(crate) fn decode<W: Word>(batch: &[W], records: &mut [[W; RECORD]]) {
             STATE_FLUSH => {
                 let [_, w1] = whole::<W, 2>(rest).map(W::get);
                 fill(record, [6, place, 2], [w1]);
+                2
+            }
+            GATEWAY if C::HAS_GATEWAY => {
+                let [_, w1] = whole::<W, 2>(rest).map(W::get);
+                fill(record, [8, place, 2], [w1]);
+                while rest[2].get() == header {
+                    rest = &rest[2..];
+                    let place = (batch.len() - rest.len()) as u32;
+                    let [_, w1] = whole::<W, 2>(rest).map(W::get);
+                    let record = records.next().expect("a record for each command");
+                    fill(record, [8, place, 2], [w1]);
+                }
                 2
             }
             _ => {

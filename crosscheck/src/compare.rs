@@ -5,10 +5,12 @@ use crate::random::Random;
 use std::fmt::Write;
 
 pub mod batch;
+mod chips;
 pub mod fuzz;
 pub mod in_play;
 pub mod isolation;
 pub mod listing;
+mod masks;
 pub mod order;
 pub mod replay;
 
@@ -42,7 +44,7 @@ impl Plan {
     fn each<C>(
         &self,
         fixed: &[C],
-        random_case: fn(&mut Random) -> C,
+        random_case: impl Fn(&mut Random) -> C,
         mut compare: impl FnMut(u64, &C, &mut Random),
     ) {
         let total = fixed.len() as u64 + self.cases;
@@ -83,7 +85,7 @@ impl Report {
 
 /// How often each number was answered through one entry.
 pub struct Tally {
-    entry: &'static str,
+    entry: String,
     rows: Vec<Row>,
 }
 
@@ -96,9 +98,9 @@ struct Row {
 
 impl Tally {
     /// `reachable` are the numbers that the entry can answer.
-    pub fn new(entry: &'static str, reachable: impl IntoIterator<Item = u64>) -> Self {
+    pub fn new(entry: impl Into<String>, reachable: impl IntoIterator<Item = u64>) -> Self {
         let mut tally = Tally {
-            entry,
+            entry: entry.into(),
             rows: Vec::new(),
         };
         for number in reachable {

@@ -13,6 +13,7 @@ pub use replay::replay;
 
 extern "C" {
     fn mpl_check_batch(
+        chip: u32,
         batch: *const u8,
         batch_len: usize,
         capacity: u32,
@@ -21,6 +22,7 @@ extern "C" {
     ) -> Answer;
 
     fn mpl_check_batch_dwords(
+        chip: u32,
         batch: *const u32,
         batch_len: usize,
         capacity: u32,
@@ -30,11 +32,12 @@ extern "C" {
 }
 
 /// The batch check over little-endian bytes.
-pub fn check_batch(batch: &[u8], capacity: u32, records: &mut [u8]) -> Answer {
+pub fn check_batch(chip: u32, batch: &[u8], capacity: u32, records: &mut [u8]) -> Answer {
     // SAFETY: both slices are live for the call and do not overlap; a slice's
     // pointer is never null and is aligned, also at length 0.
     unsafe {
         mpl_check_batch(
+            chip,
             batch.as_ptr(),
             batch.len(),
             capacity,
@@ -45,10 +48,11 @@ pub fn check_batch(batch: &[u8], capacity: u32, records: &mut [u8]) -> Answer {
 }
 
 /// The batch check over dwords.
-pub fn check_batch_dwords(batch: &[u32], capacity: u32, records: &mut [u32]) -> Answer {
+pub fn check_batch_dwords(chip: u32, batch: &[u32], capacity: u32, records: &mut [u32]) -> Answer {
     // SAFETY: as above; the lengths are in dwords.
     unsafe {
         mpl_check_batch_dwords(
+            chip,
             batch.as_ptr(),
             batch.len(),
             capacity,
@@ -59,13 +63,13 @@ pub fn check_batch_dwords(batch: &[u32], capacity: u32, records: &mut [u32]) -> 
 }
 
 /// Both entries with nothing lent: null pointers, which are allowed at length 0.
-pub fn check_nothing(capacity: u32) -> [Answer; 2] {
+pub fn check_nothing(chip: u32, capacity: u32) -> [Answer; 2] {
     use std::ptr::{null, null_mut};
     // SAFETY: a pointer of length 0 is not used.
     unsafe {
         [
-            mpl_check_batch(null(), 0, capacity, null_mut(), 0),
-            mpl_check_batch_dwords(null(), 0, capacity, null_mut(), 0),
+            mpl_check_batch(chip, null(), 0, capacity, null_mut(), 0),
+            mpl_check_batch_dwords(chip, null(), 0, capacity, null_mut(), 0),
         ]
     }
 }

@@ -1,6 +1,7 @@
 //! The listing: section "The listing" of document 01.
 
 use crate::batch::{self, Answer, Word, RECORD};
+use crate::masks::KINDS;
 use std::fmt::Write;
 
 /// The most bytes that the program takes.
@@ -10,13 +11,15 @@ pub const MOST: usize = 4096;
 pub const CAPACITY: u32 = 2048;
 
 /// The commands' names, by kind.
-pub const NAMES: [&str; 8] = ["NOP", "FLU", "END", "VFE", "CUR", "IDL", "SFL", "OBJ"];
+pub const NAMES: [&str; KINDS] = [
+    "NOP", "FLU", "END", "VFE", "CUR", "IDL", "SFL", "OBJ", "GWS",
+];
 
-/// What the program prints for its input.
-pub fn listing(input: &[u8]) -> Vec<u8> {
+/// What the chip's program prints for its input.
+pub fn listing(chip: u32, input: &[u8]) -> Vec<u8> {
     // A record for every dword that passes, so that 10 never occurs.
     let mut records = vec![0; MOST * RECORD];
-    let answer = check(input, &mut records);
+    let answer = check(chip, input, &mut records);
     let text = match answer.number {
         0 => accepted(answer, &records),
         number => format!("MPL 1\nrefused {number} at {}\n", answer.place),
@@ -25,11 +28,11 @@ pub fn listing(input: &[u8]) -> Vec<u8> {
 }
 
 /// The batch check, after the program's own limit, which precedes 17.
-fn check(input: &[u8], records: &mut [u8]) -> Answer {
+fn check(chip: u32, input: &[u8], records: &mut [u8]) -> Answer {
     if input.len() > MOST {
         return Answer::refused(1, 0);
     }
-    batch::check_bytes(input, CAPACITY, records)
+    batch::check_bytes(chip, input, CAPACITY, records)
 }
 
 /// A line for each record, then the sums.

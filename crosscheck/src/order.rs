@@ -7,7 +7,7 @@
 //! closer at those within reach of a delta. A stretch of finished objects is
 //! crossed as a whole.
 
-use crate::batch::{self, Refusal, Word, RECORD};
+use crate::batch::{self, Chip, Gen6, Gen7, Refusal, Word, RECORD};
 use std::ops::Range;
 
 /// What an entry answers. On 0 the place is the event count, from 20 on the
@@ -59,23 +59,30 @@ pub const FINISHED: u8 = 2;
 
 /// The order check over dwords.
 pub fn check(
+    chip: u32,
     batch: &[u32],
     capacity: u32,
     run: &[u32],
     records: &mut [u32],
     states: &mut [u8],
 ) -> Answer {
-    check_words(batch, capacity, run, records.as_chunks_mut().0, states)
+    let records = records.as_chunks_mut().0;
+    check_words(chip, batch, capacity, run, records, states)
 }
 
 /// The order check over little-endian bytes; a record takes 64 of them.
 pub fn check_bytes(
+    chip: u32,
     batch: &[u8],
     capacity: u32,
     run: &[u8],
     records: &mut [u8],
     states: &mut [u8],
 ) -> Answer {
+    // 18 comes before 17.
+    if !batch::known(chip) {
+        return Answer::new(18, 0);
+    }
     let (batch, batch_tail) = batch.as_chunks::<4>();
     if !batch_tail.is_empty() {
         return Answer::new(17, batch.len());
@@ -85,7 +92,8 @@ pub fn check_bytes(
         return Answer::new(17, run.len());
     }
     let (records, _) = records.as_chunks_mut::<4>();
-    check_words(batch, capacity, run, records.as_chunks_mut().0, states)
+    let records = records.as_chunks_mut().0;
+    check_words(chip, batch, capacity, run, records, states)
 }
 
 /// How many deltas are in play for an OBJECT under a VFE, and which is the
@@ -110,24 +118,53 @@ fn stalling(vfe_dword_5: u32) -> bool {
 }
 
 fn check_words<W: Word>(
+    chip: u32,
     batch: &[W],
     capacity: u32,
     run: &[W],
     records: &mut [[W; RECORD]],
     states: &mut [u8],
 ) -> Answer {
-    let (accepted, records) = match batch::admit(batch, capacity, records) {
-        Ok(admitted) => admitted,
-        Err(Refusal { number, place }) => return Answer::new(number, place),
+    let begun = match chip {
+        7 => begin::<Gen7, W>(batch, capacity, records, states),
+        6 => begin::<Gen6, W>(batch, capacity, records, states),
+        _ => Err(Answer::new(18, 0)),
     };
+    match begun {
+        Ok(begun) => follow(run, begun),
+        Err(refused) => refused,
+    }
+}
+
+/// The filled records, and the states of the objects, all waiting.
+struct Begun<'a, W> {
+    records: &'a [[W; RECORD]],
+    states: &'a mut [u8],
+}
+
+/// Rules 1 to 10 and 20; then the records are filled, and every object waits.
+fn begin<'a, C: Chip, W: Word>(
+    batch: &[W],
+    capacity: u32,
+    records: &'a mut [[W; RECORD]],
+    states: &'a mut [u8],
+) -> Result<Begun<'a, W>, Answer> {
+    let admitted = batch::admit::<C, W>(batch, capacity, records);
+    let (accepted, records) =
+        admitted.map_err(|Refusal { number, place }| Answer::new(number, place))?;
     let Some(states) = states.get_mut(..accepted.objects) else {
-        return Answer::new(20, 0);
+        return Err(Answer::new(20, 0));
     };
-    batch::decode(batch, records);
+    batch::decode::<C, W>(batch, records);
     states.fill(WAITING);
+    Ok(Begun { records, states })
+}
+
+/// The events of the run.
+fn follow<W: Word>(run: &[W], begun: Begun<W>) -> Answer {
     let mut board = Board {
-        records,
-        states,
+        records: begun.records,
+        states: begun.states,
         waiting: 0,
         unfinished: Spot::default(),
         crossed: 0..0,

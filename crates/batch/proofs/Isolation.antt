@@ -2,6 +2,8 @@
 use mathlib.Core.Path.{_≡_}
 use mathlib.Core.List.{List}
 use Prim.Native.Nat.{ℕ}
+use lib.ListN.{length}
+use Rattle.chips.specs.Chips.{target, ForChip}
 use Rattle.words.specs.Dwords.{dwordsOf}
 use Rattle.reading.specs.Reading.{readingOf}
 use Rattle.reading.specs.Isolation.{Alike, BytesAlike}
@@ -12,23 +14,26 @@ use Rattle.batch.specs.Isolation.{Guards}
 use Rattle.batch.proofs.Claimed.{same-answers, same-bytes}
 
 -- LAW: one answer, and one record buffer at exit
-module _ (capacity : ℕ) (b b′ : List ℕ) (h : Alike capacity b b′) (r : List ℕ) where
-  pub alike-answer : answerOf capacity b r ≡ answerOf capacity b′ r
-  alike-answer = same-answers capacity b′ r b (h .size) (alike-reading capacity b b′ h) .0
+module _ (chip capacity : ℕ) (b b′ : List ℕ) (h : ForChip chip (λ c. Alike (target c capacity) b b′)) (r : List ℕ) where
+  one-reading : ForChip chip (λ c. (length b ≡ length b′) × (readingOf (target c capacity) b ≡ readingOf (target c capacity) b′))
+  one-reading c n = (h c n .size, alike-reading (target c capacity) b b′ (h c n))
 
-  pub alike-records : recordsOf capacity b r ≡ recordsOf capacity b′ r
-  alike-records = same-answers capacity b′ r b (h .size) (alike-reading capacity b b′ h) .1
+  pub alike-answer : answerOf chip capacity b r ≡ answerOf chip capacity b′ r
+  alike-answer = same-answers chip capacity b′ r b one-reading .0
+
+  pub alike-records : recordsOf chip capacity b r ≡ recordsOf chip capacity b′ r
+  alike-records = same-answers chip capacity b′ r b one-reading .1
 
 -- the same over bytes
-module _ (capacity : ℕ) (b b′ : List ℕ) (h : BytesAlike capacity b b′) (r : List ℕ) where
-  one-reading : readingOf capacity (dwordsOf b) ≡ readingOf capacity (dwordsOf b′)
-  one-reading = alike-reading capacity (dwordsOf b) (dwordsOf b′) (bytes-alike capacity b b′ h)
+module _ (chip capacity : ℕ) (b b′ : List ℕ) (h : ForChip chip (λ c. BytesAlike (target c capacity) b b′)) (r : List ℕ) where
+  bytes-reading : ForChip chip (λ c. (length b ≡ length b′) × (readingOf (target c capacity) (dwordsOf b) ≡ readingOf (target c capacity) (dwordsOf b′)))
+  bytes-reading c n = (h c n .size, alike-reading (target c capacity) (dwordsOf b) (dwordsOf b′) (bytes-alike (target c capacity) b b′ (h c n)))
 
-  pub alike-bytes-answer : bytesAnswerOf capacity b r ≡ bytesAnswerOf capacity b′ r
-  alike-bytes-answer = same-bytes capacity b′ r b (h .size) one-reading .0
+  pub alike-bytes-answer : bytesAnswerOf chip capacity b r ≡ bytesAnswerOf chip capacity b′ r
+  alike-bytes-answer = same-bytes chip capacity b′ r b bytes-reading .0
 
-  pub alike-bytes-records : bytesRecordsOf capacity b r ≡ bytesRecordsOf capacity b′ r
-  alike-bytes-records = same-bytes capacity b′ r b (h .size) one-reading .1
+  pub alike-bytes-records : bytesRecordsOf chip capacity b r ≡ bytesRecordsOf chip capacity b′ r
+  alike-bytes-records = same-bytes chip capacity b′ r b bytes-reading .1
 
 -- THEOREM: the words are as wide as the paper's
 pub guards : Guards

@@ -2,6 +2,8 @@
 use Prim.Native.Nat.{ℕ, _/_}
 use mathlib.Core.List.{List}
 use lib.ListN.{length, set}
+use Rattle.chips.specs.declared.Target.{Target}
+use Rattle.chips.specs.Chips.{target, onChip}
 use Rattle.words.specs.Dwords.{dwordsOf, putLe}
 use Rattle.reading.specs.declared.Scanned.{Scanned}
 use Rattle.reading.specs.declared.Scanned.the-variants.{Stopped, Ended}
@@ -22,19 +24,32 @@ answerBy (Stopped m p) = refusedAnswer m p
 answerBy (Ended c d o) = acceptedAnswer c d
 
 -- The record buffer r at exit: "Nothing lent changes on any refusal of this table"; success "fills that many records, nothing past them".
-unfoldable pub recordedIn : {B : Type 0} → (B → ℕ → ℕ → B) → ℕ → ℕ → List ℕ → B → B
-recordedIn put capacity room b r = decided (λ m p. r) (λ c d. recorded put capacity b r) capacity room b
+unfoldable pub recordedIn : {B : Type 0} → (B → ℕ → ℕ → B) → Target → ℕ → List ℕ → B → B
+recordedIn put target room b r = decided (λ m p. r) (λ c d. recorded put target b r) target room b
 
--- the dword entry, given the capacity in rows, the batch and the record buffer
-unfoldable pub answerOf : ℕ → List ℕ → List ℕ → Answer
-answerOf capacity b r = decided refusedAnswer acceptedAnswer capacity (length r) b
+-- for a known chip: the dword entry, given the chip and the capacity in rows, the batch and the record buffer
+unfoldable pub answerFor : Target → List ℕ → List ℕ → Answer
+answerFor target b r = decided refusedAnswer acceptedAnswer target (length r) b
 
-unfoldable pub recordsOf : ℕ → List ℕ → List ℕ → List ℕ
-recordsOf capacity b r = recordedIn set capacity (length r) b r
+unfoldable pub recordsFor : Target → List ℕ → List ℕ → List ℕ
+recordsFor target b r = recordedIn set target (length r) b r
 
 -- the byte entry: "Records there take 64 bytes each"
-unfoldable pub bytesAnswerOf : ℕ → List ℕ → List ℕ → Answer
-bytesAnswerOf capacity b r = wholeDwords refusedAnswer b (decided refusedAnswer acceptedAnswer capacity (length r / 4) (dwordsOf b))
+unfoldable pub bytesAnswerFor : Target → List ℕ → List ℕ → Answer
+bytesAnswerFor target b r = wholeDwords refusedAnswer b (decided refusedAnswer acceptedAnswer target (length r / 4) (dwordsOf b))
 
-unfoldable pub bytesRecordsOf : ℕ → List ℕ → List ℕ → List ℕ
-bytesRecordsOf capacity b r = wholeDwords (λ m p. r) b (recordedIn putLe capacity (length r / 4) (dwordsOf b) r)
+unfoldable pub bytesRecordsFor : Target → List ℕ → List ℕ → List ℕ
+bytesRecordsFor target b r = wholeDwords (λ m p. r) b (recordedIn putLe target (length r / 4) (dwordsOf b) r)
+
+-- The entries, for any number as the chip: 18 before all else, and nothing lent changes.
+unfoldable pub answerOf : ℕ → ℕ → List ℕ → List ℕ → Answer
+answerOf chip capacity b r = onChip refusedAnswer (λ c. answerFor (target c capacity) b r) chip
+
+unfoldable pub recordsOf : ℕ → ℕ → List ℕ → List ℕ → List ℕ
+recordsOf chip capacity b r = onChip (λ m p. r) (λ c. recordsFor (target c capacity) b r) chip
+
+unfoldable pub bytesAnswerOf : ℕ → ℕ → List ℕ → List ℕ → Answer
+bytesAnswerOf chip capacity b r = onChip refusedAnswer (λ c. bytesAnswerFor (target c capacity) b r) chip
+
+unfoldable pub bytesRecordsOf : ℕ → ℕ → List ℕ → List ℕ → List ℕ
+bytesRecordsOf chip capacity b r = onChip (λ m p. r) (λ c. bytesRecordsFor (target c capacity) b r) chip

@@ -1,6 +1,10 @@
 // The batch check: a pass that decides and writes nothing, then a pass that writes the records.
 ghost use mathlib.Core.Path.{_≡_};
-ghost use Rattle.batch.specs.Answers.{refusedAnswer, acceptedAnswer, answerBy, answerOf, recordsOf, bytesAnswerOf, bytesRecordsOf};
+ghost use Rattle.batch.specs.Answers.{refusedAnswer, acceptedAnswer, answerBy, answerFor, recordsFor, bytesAnswerFor, bytesRecordsFor};
+ghost use Rattle.batch.specs.Answers.{answerOf, recordsOf, bytesAnswerOf, bytesRecordsOf};
+use chips::Named;
+use chips::Target;
+use chips::chip_named;
 use reading::Scanned;
 use reading::decide;
 use records::fill;
@@ -50,14 +54,14 @@ fn answered(found: Scanned) -> Answer
     }
 }
 
-// The batch check over dwords: may the chip read this batch? On acceptance the records stand in `records`; on refusal it is as it was.
-pub fn check(batch: &[u32], capacity: u32, records: &mut [u32]) -> Answer
-    ensures { λ r. ⌜ (r ≡ answerOf capacity (now (batch .entry)) (now (records .entry)))
-        × (now (records .exit) ≡ recordsOf capacity (now (batch .entry)) (now (records .entry))) ⌝ }
+// The batch check over dwords, for a known chip.
+fn check_for(target: Target, batch: &[u32], records: &mut [u32]) -> Answer
+    ensures { λ r. ⌜ (r ≡ answerFor target (now (batch .entry)) (now (records .entry)))
+        × (now (records .exit) ≡ recordsFor target (now (batch .entry)) (now (records .entry))) ⌝ }
 {
     let none: [u8; 0] = [];
     let mut empty: [u8; 0] = [];
-    let found = decide(batch, &none, capacity, records.len());
+    let found = decide(target, batch, &none, records.len());
     match found {
         Scanned::Stopped { number, place } => refused(number, place),
         Scanned::Ended {
@@ -65,23 +69,23 @@ pub fn check(batch: &[u32], capacity: u32, records: &mut [u32]) -> Answer
             dwords,
             objects,
         } => {
-            fill(batch, &none, capacity, records, &mut empty);
+            fill(target, batch, &none, records, &mut empty);
             answered(found)
         }
     }
 }
 
 // The same over little-endian bytes.
-pub fn check_bytes(batch: &[u8], capacity: u32, records: &mut [u8]) -> Answer
-    ensures { λ r. ⌜ (r ≡ bytesAnswerOf capacity (now (batch .entry)) (now (records .entry)))
-        × (now (records .exit) ≡ bytesRecordsOf capacity (now (batch .entry)) (now (records .entry))) ⌝ }
+fn check_bytes_for(target: Target, batch: &[u8], records: &mut [u8]) -> Answer
+    ensures { λ r. ⌜ (r ≡ bytesAnswerFor target (now (batch .entry)) (now (records .entry)))
+        × (now (records .exit) ≡ bytesRecordsFor target (now (batch .entry)) (now (records .entry))) ⌝ }
 {
     if batch.len() % 4 != 0 {
         return refused(17, batch.len() / 4);
     }
     let none: [u32; 0] = [];
     let mut empty: [u32; 0] = [];
-    let found = decide(&none, batch, capacity, records.len() / 4);
+    let found = decide(target, &none, batch, records.len() / 4);
     match found {
         Scanned::Stopped { number, place } => refused(number, place),
         Scanned::Ended {
@@ -89,8 +93,30 @@ pub fn check_bytes(batch: &[u8], capacity: u32, records: &mut [u8]) -> Answer
             dwords,
             objects,
         } => {
-            fill(&none, batch, capacity, &mut empty, records);
+            fill(target, &none, batch, &mut empty, records);
             answered(found)
         }
+    }
+}
+
+// The batch check over dwords: may the chip read this batch? On acceptance the records stand in `records`; on refusal it is as it was.
+pub fn check(chip: u32, batch: &[u32], capacity: u32, records: &mut [u32]) -> Answer
+    ensures { λ r. ⌜ (r ≡ answerOf chip capacity (now (batch .entry)) (now (records .entry)))
+        × (now (records .exit) ≡ recordsOf chip capacity (now (batch .entry)) (now (records .entry))) ⌝ }
+{
+    match chip_named(chip) {
+        Named::Unknown => refused(18, 0),
+        Named::Known { chip } => check_for(Target { chip, capacity }, batch, records),
+    }
+}
+
+// The same over little-endian bytes.
+pub fn check_bytes(chip: u32, batch: &[u8], capacity: u32, records: &mut [u8]) -> Answer
+    ensures { λ r. ⌜ (r ≡ bytesAnswerOf chip capacity (now (batch .entry)) (now (records .entry)))
+        × (now (records .exit) ≡ bytesRecordsOf chip capacity (now (batch .entry)) (now (records .entry))) ⌝ }
+{
+    match chip_named(chip) {
+        Named::Unknown => refused(18, 0),
+        Named::Known { chip } => check_bytes_for(Target { chip, capacity }, batch, records),
     }
 }

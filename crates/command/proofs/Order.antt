@@ -1,10 +1,11 @@
 -- What commands set, one at a time, is what their list says. Assumes nothing.
-use mathlib.Core.Path.{_≡_, refl}
+use mathlib.Core.Path.{_≡_, refl, sym, ap, _∙_}
 use mathlib.Core.Bool.{Bool, true, false, cond}
 use Prim.Native.Nat.{ℕ, _+_}
 use native.Mathlib.Numerals.{add-one}
 use mathlib.Core.List.{List, _∷_}
 use lib.Dec.{eqb}
+use Rattle.chips.specs.declared.Target.{Target}
 use Rattle.command.specs.declared.State.{State}
 use Rattle.command.specs.Order.{Command, among, since, flag, isSet, standsSince, countLoaded, curbeInForce, vfeInForce, objectCount, stateOf, stateAfter}
 
@@ -16,16 +17,28 @@ flag-since kinds last k t = go (among k last) (among k kinds)
     go false true = refl
     go false false = refl
 
-pub state-after : (capacity : ℕ) (c : Command) (cs : List Command) → stateOf capacity (c ∷ cs) ≡ stateAfter (c .kind) (c .head) (stateOf capacity cs)
+pub state-after : (target : Target) (c : Command) (cs : List Command) → stateOf target (c ∷ cs) ≡ stateAfter (c .kind) (c .head) (stateOf target cs)
 unfolding stateOf stateAfter standsSince countLoaded curbeInForce vfeInForce objectCount
-state-after capacity c cs = simp (add-one, flag-since)
+state-after target c cs = simp (add-one, flag-since)
 
 -- a flag tells what it was made of
 pub set-flag : (t : Bool) → isSet (flag t) ≡ t
 set-flag true = refl
 set-flag false = refl
 
+pub after-kind : (k n : ℕ) (h : List ℕ) (st r : State) → k ≡ n → r ≡ stateAfter n h st → r ≡ stateAfter k h st
+after-kind k n h st r p e = e ∙ ap (λ (x : ℕ). stateAfter x h st) (sym p)
+
+-- the chip is what it was
+pub state-chip : (target : Target) (cs : List Command) → stateOf target cs .chip ≡ target .chip
+unfolding stateOf
+state-chip target cs = refl
+
 module _ (k : ℕ) (h : List ℕ) (st : State) where
+  pub after-chip : stateAfter k h st .chip ≡ st .chip
+  unfolding stateAfter
+  after-chip = refl
+
   pub after-commands : stateAfter k h st .commands ≡ st .commands + 1
   unfolding stateAfter
   after-commands = refl

@@ -1,14 +1,16 @@
--- The kinds of command: document 01, "The command words".
+-- The kinds of command: document 01, "The command words"; document 02, One, "the extra command MEDIA_GATEWAY_STATE".
 use Prim.Native.Nat.{ℕ, _+_, _/_, _%_, _^_, _<_, _≤_}
-use mathlib.Core.Bool.{Bool, true, cond, _&&_}
+use mathlib.Core.Bool.{Bool, true, false, cond, _&&_}
 use mathlib.Core.List.{List, [], _∷_}
 use mathlib.Core.Path.{_≡_}
 use lib.ListN.{length, getD}
 use lib.Dec.{ltb, leb, eqb}
 use Rattle.laws.specs.BitRanges.{bits, field}
-use Rattle.laws.specs.Rows.{row, firstRow}
+use Rattle.laws.specs.Rows.{Row, row, firstRow}
+use Rattle.chips.specs.declared.Chip.{Chip}
+use Rattle.chips.specs.declared.Chip.the-variants.{Gen6, Gen7}
 
--- The table's headers, of kinds 0 to 7. An OBJECT's is "0x7100nnnn, nnnn from 4": here with the least length.
+-- The table's headers, of kinds 0 to 8. An OBJECT's is "0x7100nnnn, nnnn from 4": here with the least length.
 abbrev headers : List ℕ
 headers =
     -- 0 no-op
@@ -27,6 +29,8 @@ headers =
     ∷ 0x7004_0000
     -- 7 MEDIA_OBJECT
     ∷ 0x7100_0004
+    -- 8 MEDIA_GATEWAY_STATE: document 000, lines 808 to 811
+    ∷ 0x7003_0000
     ∷ []
 
 abbrev pub header : ℕ → ℕ
@@ -34,18 +38,22 @@ header k = getD headers k 0
 
 -- Is d the first dword of a command of kind k? "Kinds 0 to 2 match as a whole dword (H)"; a media command by its type and opcodes, "Bits
 -- 31:29 of a media header are 3, 28:27 are 2, 26:24 opcode, 23:16 subopcode".
-abbrev isKind : ℕ → ℕ → Bool
+abbrev pub isKind : ℕ → ℕ → Bool
 isKind k d = cond (ltb k 3) (eqb d (header k)) (eqb (field (bits 31 16) d) (header k / 2 ^ 16))
 
 -- no command of the table
 abbrev pub noKind : ℕ
 noKind = 255
 
--- the kind, by a command's first dword
-unfoldable pub kindOf : ℕ → ℕ
-kindOf d =
-    firstRow noKind
-    (row 0 (isKind 0 d)
+-- "MEDIA_GATEWAY_STATE on Gen7 stays 3": the table of Gen6 alone has it
+abbrev pub hasGatewayState : Chip → Bool
+hasGatewayState Gen6 = true
+hasGatewayState Gen7 = false
+
+-- the chip's table, for a command's first dword
+abbrev pub kindRows : Chip → ℕ → List (Row ℕ)
+kindRows c d =
+    row 0 (isKind 0 d)
     ∷ row 1 (isKind 1 d)
     ∷ row 2 (isKind 2 d)
     ∷ row 3 (isKind 3 d)
@@ -53,11 +61,16 @@ kindOf d =
     ∷ row 5 (isKind 5 d)
     ∷ row 6 (isKind 6 d)
     ∷ row 7 (isKind 7 d)
-    ∷ [])
+    ∷ row 8 (hasGatewayState c && isKind 8 d)
+    ∷ []
 
--- kinds 3 to 7
+-- and its kind
+unfoldable pub kindOf : Chip → ℕ → ℕ
+kindOf c d = firstRow noKind (kindRows c d)
+
+-- kinds 3 to 8
 abbrev pub isMedia : ℕ → Bool
-isMedia k = leb 3 k && leb k 7
+isMedia k = leb 3 k && leb k 8
 
 -- "15:0 length (total dwords minus 2)"
 abbrev pub lengthField : ℕ → ℕ

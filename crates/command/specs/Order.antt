@@ -1,9 +1,11 @@
--- What the commands before a command have set: document 01, "Order (H where stricter than 003)".
+-- What the commands before a command have set: document 01, "Order (H where stricter than 003)"; document 02, One, of kind 8: "it is
+-- ordered as kind 4 is, counting with it before a VFE (H)".
 use Prim.Native.Nat.{ℕ, _+_}
 use mathlib.Core.Bool.{Bool, true, false, cond, not, _||_}
 use mathlib.Core.List.{List, [], _∷_}
 use lib.ListN.{length}
 use lib.Dec.{eqb}
+use Rattle.chips.specs.declared.Target.{Target}
 use Rattle.command.specs.declared.State.{State}
 use Rattle.command.specs.Fields.{curbeSize, loadCount}
 
@@ -36,9 +38,9 @@ standsSince kinds last (c ∷ cs) = since false true kinds last (c .kind) (stand
 abbrev pub earlierVfe : List Command → Bool
 earlierVfe cs = standsSince (3 ∷ []) [] cs
 
--- "no command of kind 3, 4, 5 or 7 stands since the last MI_FLUSH or the start": those kinds, and the flush's
+-- "no command of kind 3, 4, 5 or 7 stands since the last MI_FLUSH or the start": those kinds, kind 8, and the flush's
 abbrev mediaKinds : List ℕ
-mediaKinds = 3 ∷ 4 ∷ 5 ∷ 7 ∷ []
+mediaKinds = 3 ∷ 4 ∷ 5 ∷ 7 ∷ 8 ∷ []
 
 abbrev mediaFlushes : List ℕ
 mediaFlushes = 1 ∷ []
@@ -83,11 +85,12 @@ flag t = cond t 1 0
 abbrev pub isSet : ℕ → Bool
 isSet n = not (eqb n 0)
 
--- all of that, with the lent capacity in rows
-unfoldable pub stateOf : ℕ → List Command → State
-stateOf capacity cs =
+-- all of that, with what the batch is judged for
+unfoldable pub stateOf : Target → List Command → State
+stateOf target cs =
     record {
-      capacity = capacity;
+      chip = target .chip;
+      capacity = target .capacity;
       «earlier_vfe» = flag (earlierVfe cs);
       «vfe_in_force» = vfeInForce cs;
       «curbe_in_force» = curbeInForce cs;
@@ -103,6 +106,7 @@ stateOf capacity cs =
 unfoldable pub stateAfter : ℕ → List ℕ → State → State
 stateAfter k h st =
     record {
+      chip = st .chip;
       capacity = st .capacity;
       «earlier_vfe» = since 0 1 (3 ∷ []) [] k (st .«earlier_vfe»);
       «vfe_in_force» = cond (eqb k 3) (st .commands) (st .«vfe_in_force»);

@@ -3,13 +3,15 @@ ghost use mathlib.Core.Path.{_≡_};
 ghost use Prim.Native.Nat.{_<_};
 ghost use lib.ListN.{drop};
 ghost use Rattle.words.specs.Dwords.{lent};
-ghost use Rattle.command.specs.Kinds.{kindOf, totalOf, ownDwords, headOf, DwordsAt};
+ghost use mathlib.Core.Bool.{cond};
+ghost use Rattle.command.specs.Kinds.{noKind, hasGatewayState, kindOf, totalOf, ownDwords, headOf, DwordsAt};
+use chips::Chip;
 use words::word;
 
 // The kind of a dword below those of media commands.
-fn plain_kind(d: u32) -> u32
+fn plain_kind(chip: Chip, d: u32) -> u32
     requires { ⌜ d < 0x7000_0000 ⌝ }
-    ensures { λ r. ⌜ r ≡ kindOf d ⌝ }
+    ensures { λ r. ⌜ r ≡ kindOf chip d ⌝ }
 {
     if d == 0 {
         return 0;
@@ -23,8 +25,19 @@ fn plain_kind(d: u32) -> u32
     255
 }
 
-pub fn kind(d: u32) -> u32
-    ensures { λ r. ⌜ r ≡ kindOf d ⌝ }
+// MEDIA_GATEWAY_STATE, which Gen6 alone has.
+fn gateway_kind(chip: Chip) -> u32
+    ensures { λ r. ⌜ r ≡ cond (hasGatewayState chip) 8 noKind ⌝ }
+{
+    match chip {
+        Chip::Gen6 => 8,
+        Chip::Gen7 => 255,
+    }
+}
+
+// The kind of a command with the first dword d, in a chip's table.
+pub fn kind(chip: Chip, d: u32) -> u32
+    ensures { λ r. ⌜ r ≡ kindOf chip d ⌝ }
 {
     // the OBJECT first: most of a batch. The test of the whole dword keeps the compiler from making a table of jumps
     let opcodes = (d >> 16) & 0xffff;
@@ -35,7 +48,7 @@ pub fn kind(d: u32) -> u32
         return 3;
     }
     if d < 0x7000_0000 {
-        return plain_kind(d);
+        return plain_kind(chip, d);
     }
     if opcodes == 0x7002 {
         return 5;
@@ -45,6 +58,10 @@ pub fn kind(d: u32) -> u32
     }
     if opcodes == 0x7004 {
         return 6;
+    }
+    // the only media opcodes left below those of the state flush
+    if d < 0x7004_0000 {
+        return gateway_kind(chip);
     }
     255
 }
@@ -109,8 +126,8 @@ fn load_dwords(dw: &[u32], by: &[u8], at: usize, d: u32) -> [u32; 8]
     ]
 }
 
-// A state flush: two.
-fn flush_dwords(dw: &[u32], by: &[u8], at: usize, d: u32) -> [u32; 8]
+// A state flush or gateway state: two.
+fn short_dwords(dw: &[u32], by: &[u8], at: usize, d: u32) -> [u32; 8]
     requires { ⌜ DwordsAt (lent dw by) at 2 d ⌝ }
     ensures { λ r. ⌜ r ≡ headOf 6 (drop at (lent (dw .entry) (by .entry))) ⌝ }
 {
@@ -127,7 +144,8 @@ pub fn own_dwords(dw: &[u32], by: &[u8], at: usize, k: u32, d: u32) -> [u32; 8]
         3 => vfe_dwords(dw, by, at, d),
         4 => load_dwords(dw, by, at, d),
         5 => load_dwords(dw, by, at, d),
-        6 => flush_dwords(dw, by, at, d),
+        6 => short_dwords(dw, by, at, d),
+        8 => short_dwords(dw, by, at, d),
         _ => [d, 0, 0, 0, 0, 0, 0, 0],
     }
 }

@@ -2,9 +2,12 @@
 pub mod head;
 pub mod states;
 
-// What the commands before a command have set, and the capacity lent, in rows. The flags are 1 or 0: as bools, whose bytes are stored one
+use chips::Chip;
+
+// What the batch is judged for, the chip and the capacity in rows, and what the commands before a command have set. The flags are 1 or 0: as bools, whose bytes are stored one
 // by one and loaded as one word, they held up the loop.
 pub struct State {
+    pub chip: Chip,
     pub capacity: u32,
     pub earlier_vfe: u32,
     // the VFE in force: the number of its record, and its CURBE size in rows
@@ -12,7 +15,7 @@ pub struct State {
     pub curbe_in_force: u32,
     // descriptors last loaded
     pub count_loaded: u32,
-    // a command of kind 3, 4, 5 or 7 stands since the last MI_FLUSH
+    // a command of kind 3, 4, 5, 7 or 8 stands since the last MI_FLUSH
     pub media_since_flush: u32,
     // an OBJECT stands since the last MI_FLUSH or MEDIA_STATE_FLUSH
     pub object_since_flush: u32,

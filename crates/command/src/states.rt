@@ -4,13 +4,16 @@ ghost use mathlib.Core.List.{[]};
 ghost use Prim.Native.Nat.{_+_, _<_, _^_};
 ghost use Rattle.command.specs.Order.{stateOf, stateAfter};
 use crate::State;
+use chips::Target;
 
 // Before the first command.
-pub fn start(capacity: u32) -> State
-    ensures { λ r. ⌜ r ≡ stateOf capacity [] ⌝ }
+pub fn start(target: Target) -> State
+    ensures { λ r. ⌜ r ≡ stateOf target [] ⌝ }
 {
+    let chip = target.chip;
     State {
-        capacity,
+        chip,
+        capacity: target.capacity,
         earlier_vfe: 0,
         vfe_in_force: 0,
         curbe_in_force: 0,
@@ -20,6 +23,20 @@ pub fn start(capacity: u32) -> State
         commands: 0,
         objects: 0,
     }
+}
+
+// After a VFE, which is in force from here on.
+fn after_vfe(h: [u32; 8], st: State) -> State
+    requires { ⌜ st .commands + 1 < 2 ^ 32 ⌝ }
+    ensures { λ r. ⌜ r ≡ stateAfter 3 h st ⌝ }
+{
+    let mut next = st;
+    next.commands = st.commands + 1;
+    next.earlier_vfe = 1;
+    next.vfe_in_force = st.commands;
+    next.curbe_in_force = h[4] & 0xffff;
+    next.media_since_flush = 1;
+    next
 }
 
 // After a command of kind k with own dwords h.
@@ -41,13 +58,7 @@ pub fn after(k: u32, h: [u32; 8], st: State) -> State
             next.object_since_flush = 0;
             next
         }
-        3 => {
-            next.earlier_vfe = 1;
-            next.vfe_in_force = st.commands;
-            next.curbe_in_force = h[4] & 0xffff;
-            next.media_since_flush = 1;
-            next
-        }
+        3 => after_vfe(h, st),
         4 => {
             next.media_since_flush = 1;
             next
@@ -59,6 +70,10 @@ pub fn after(k: u32, h: [u32; 8], st: State) -> State
         }
         6 => {
             next.object_since_flush = 0;
+            next
+        }
+        8 => {
+            next.media_since_flush = 1;
             next
         }
         _ => next,

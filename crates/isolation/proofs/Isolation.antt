@@ -1,6 +1,7 @@
 -- Demand 3 holds. Each deciding fact, each half's induction and its guards are laws in the crate of their definition. Assumes nothing.
 use mathlib.Core.List.{List}
 use Prim.Native.Nat.{ℕ}
+use Rattle.chips.specs.Chips.{target, ForChip}
 use Rattle.words.specs.Dwords.{dwordsOf}
 use Rattle.reading.specs.Isolation.{Alike, BytesAlike}
 use Rattle.reading.proofs.Isolation.{alike-reading, bytes-alike}
@@ -11,22 +12,22 @@ use Rattle.replay_claims.proofs.Guards as recording
 use Rattle.listing.proofs.Isolation.{alike-text, alike-buffer}
 use Rattle.isolation.specs.Isolation.{Same, BytesSame, Isolation}
 
-same : (capacity : ℕ) (b b′ run r states : List ℕ) → Alike capacity b b′ → Same capacity b b′ run r states
-same capacity b b′ run r states h =
+same : (chip capacity : ℕ) (b b′ run r states : List ℕ) → ForChip chip (λ c. Alike (target c capacity) b b′) → Same chip capacity b b′ run r states
+same chip capacity b b′ run r states h =
     record {
-      passed = alike-reading capacity b b′ h;
-      answer = batch.alike-answer capacity b b′ h r;
-      records = batch.alike-records capacity b b′ h r;
-      order = alike-order capacity b b′ run r states h;
+      passed = λ c n. alike-reading (target c capacity) b b′ (h c n);
+      answer = batch.alike-answer chip capacity b b′ h r;
+      records = batch.alike-records chip capacity b b′ h r;
+      order = alike-order chip capacity b b′ run r states h;
     }
 
-bytes-same : (capacity : ℕ) (b b′ run r states : List ℕ) → BytesAlike capacity b b′ → BytesSame capacity b b′ run r states
-bytes-same capacity b b′ run r states h =
+bytes-same : (chip capacity : ℕ) (b b′ run r states : List ℕ) → ForChip chip (λ c. BytesAlike (target c capacity) b b′) → BytesSame chip capacity b b′ run r states
+bytes-same chip capacity b b′ run r states h =
     record {
-      passed = alike-reading capacity (dwordsOf b) (dwordsOf b′) (bytes-alike capacity b b′ h);
-      answer = batch.alike-bytes-answer capacity b b′ h r;
-      records = batch.alike-bytes-records capacity b b′ h r;
-      order = alike-bytes-order capacity b b′ run r states h;
+      passed = λ c n. alike-reading (target c capacity) (dwordsOf b) (dwordsOf b′) (bytes-alike (target c capacity) b b′ (h c n));
+      answer = batch.alike-bytes-answer chip capacity b b′ h r;
+      records = batch.alike-bytes-records chip capacity b b′ h r;
+      order = alike-bytes-order chip capacity b b′ run r states h;
     }
 
 -- THEOREM: demand 3
@@ -39,7 +40,7 @@ isolation =
           record {
             dwords = same;
             bytes = bytes-same;
-            listing = λ input input′ text h. record { bytes = alike-text input input′ h; buffer = alike-buffer input input′ h text };
+            listing = λ chip input input′ text h. record { bytes = alike-text chip input input′ h; buffer = alike-buffer chip input input′ h text };
           };
       batchWords = batch.guards;
     }

@@ -4,6 +4,8 @@
 use mathlib.Core.Path.{_≡_}
 use mathlib.Core.List.{List}
 use Prim.Native.Nat.{ℕ}
+use Rattle.chips.specs.declared.Chip.{Chip}
+use Rattle.chips.specs.Chips.{target, ForChip}
 use Rattle.words.specs.Dwords.{dwordsOf}
 use Rattle.reading.specs.Reading.{readingOf}
 use Rattle.reading.specs.Isolation.{Alike, BytesAlike}
@@ -22,31 +24,35 @@ Recordings =
     → replays.Alike n rec rec′ → Outside n registers registers′ → Isolated n rec rec′ registers registers′ counts outcomes
 
 -- "The batch check, the order check .. answer both alike, given the same run, capacity and lent buffers. Every record, state byte .. ends
--- the same": r are the record words lent, and each list is the whole buffer. The order check's equation has its answer, records and states.
-pub record Same (capacity : ℕ) (b b′ run r states : List ℕ) : Type 0 where
+-- the same", document 02, One: "for the chip named". r are the record words lent, and each list is the whole buffer. The order check's
+-- equation has its answer, records and states.
+pub record Same (chip capacity : ℕ) (b b′ run r states : List ℕ) : Type 0 where
   -- that the second passes the same is proved, not assumed
-  pub passed : readingOf capacity b ≡ readingOf capacity b′
-  pub answer : answerOf capacity b r ≡ answerOf capacity b′ r
-  pub records : recordsOf capacity b r ≡ recordsOf capacity b′ r
-  pub order : orderOf capacity b run r states ≡ orderOf capacity b′ run r states
+  pub passed : ForChip chip (λ c. readingOf (target c capacity) b ≡ readingOf (target c capacity) b′)
+  pub answer : answerOf chip capacity b r ≡ answerOf chip capacity b′ r
+  pub records : recordsOf chip capacity b r ≡ recordsOf chip capacity b′ r
+  pub order : orderOf chip capacity b run r states ≡ orderOf chip capacity b′ run r states
 
 -- the same over bytes: b, run and r are bytes
-pub record BytesSame (capacity : ℕ) (b b′ run r states : List ℕ) : Type 0 where
-  pub passed : readingOf capacity (dwordsOf b) ≡ readingOf capacity (dwordsOf b′)
-  pub answer : bytesAnswerOf capacity b r ≡ bytesAnswerOf capacity b′ r
-  pub records : bytesRecordsOf capacity b r ≡ bytesRecordsOf capacity b′ r
-  pub order : bytesOrderOf capacity b run r states ≡ bytesOrderOf capacity b′ run r states
+pub record BytesSame (chip capacity : ℕ) (b b′ run r states : List ℕ) : Type 0 where
+  pub passed : ForChip chip (λ c. readingOf (target c capacity) (dwordsOf b) ≡ readingOf (target c capacity) (dwordsOf b′))
+  pub answer : bytesAnswerOf chip capacity b r ≡ bytesAnswerOf chip capacity b′ r
+  pub records : bytesRecordsOf chip capacity b r ≡ bytesRecordsOf chip capacity b′ r
+  pub order : bytesOrderOf chip capacity b run r states ≡ bytesOrderOf chip capacity b′ run r states
 
 -- "For a program the claim is of the bytes made for printing from what it read": on input of any length, and the whole text buffer at exit
-pub record ListedSame (input input′ text : List ℕ) : Type 0 where
-  pub bytes : textOf input ≡ textOf input′
-  pub buffer : listedIn input text ≡ listedIn input′ text
+pub record ListedSame (chip : Chip) (input input′ text : List ℕ) : Type 0 where
+  pub bytes : textOf chip input ≡ textOf chip input′
+  pub buffer : listedIn chip input text ≡ listedIn chip input′ text
 
--- "Now take two batches that differ only in inline data of objects passed before the reading stopped." The listing has 2,048 rows.
+-- "Now take two batches that differ only in inline data of objects passed before the reading stopped", as the chip named reads them. Where
+-- the number names no chip, any two batches are answered alike: nothing is asked of them. A listing has 2,048 rows.
 pub record Batches : Type 0 where
-  pub dwords : (capacity : ℕ) (b b′ run r states : List ℕ) → Alike capacity b b′ → Same capacity b b′ run r states
-  pub bytes : (capacity : ℕ) (b b′ run r states : List ℕ) → BytesAlike capacity b b′ → BytesSame capacity b b′ run r states
-  pub listing : (input input′ text : List ℕ) → BytesAlike 2048 input input′ → ListedSame input input′ text
+  pub dwords : (chip capacity : ℕ) (b b′ run r states : List ℕ) → ForChip chip (λ c. Alike (target c capacity) b b′)
+      → Same chip capacity b b′ run r states
+  pub bytes : (chip capacity : ℕ) (b b′ run r states : List ℕ) → ForChip chip (λ c. BytesAlike (target c capacity) b b′)
+      → BytesSame chip capacity b b′ run r states
+  pub listing : (chip : Chip) (input input′ text : List ℕ) → BytesAlike (target chip 2048) input input′ → ListedSame chip input input′ text
 
 pub record Isolation : Type 0 where
   pub recordings : Recordings

@@ -9,6 +9,7 @@ use borrow.Author.Tests.{ltb-false, leb-true, eqb-true, eqb-false, ne-eqb, le-lt
 use Rattle.laws.specs.Rows.{Row, row, firstRow}
 use Rattle.laws.proofs.Tests.{both-left, both-right}
 use Rattle.laws.proofs.Rows.{EachRow, by-rows, numbered, no-row, none-decides, second-decides, first-decides, first-off}
+use Rattle.chips.specs.declared.Target.{Target}
 use Rattle.command.specs.declared.State.{State}
 use Rattle.command.specs.Kinds.{noKind, lengthField, lengthAllowed, lengthOf, totalOf, ownDwords}
 use Rattle.command.specs.Order.{Command, earlierVfe, flag, isSet, stateOf}
@@ -36,16 +37,16 @@ module _ (k left : ℕ) (h : List ℕ) (st : State) where
 
   pub judge-own : headerVerdict k (dword h 0) left ≡ Passed → judgeOf k left h st ≡ ownVerdict k h st
   unfolding headerVerdict ownVerdict judgeOf
-  judge-own e = second-decides numberOf Passed hs (ownRows k h st) tt (ap numberOf e)
+  judge-own e = second-decides numberOf Passed hs (ownRows (st .chip) k h st) tt (ap numberOf e)
 
   pub judge-header : (m s : ℕ) → headerVerdict k (dword h 0) left ≡ Fault m s → judgeOf k left h st ≡ Fault m s
   unfolding headerVerdict judgeOf
-  judge-header m s e = first-decides numberOf Passed hs (ownRows k h st) refl (λ z. never m s (sym e ∙ passed hs tt z)) ∙ e
+  judge-header m s e = first-decides numberOf Passed hs (ownRows (st .chip) k h st) refl (λ z. never m s (sym e ∙ passed hs tt z)) ∙ e
 
   -- a command that passes has passed rows 3 to 5
   pub passed-header : judgeOf k left h st ≡ Passed → headerVerdict k (dword h 0) left ≡ Passed
   unfolding headerVerdict judgeOf
-  passed-header e = passed hs tt (first-off numberOf Passed hs (ownRows k h st) tt (ap numberOf e) refl)
+  passed-header e = passed hs tt (first-off numberOf Passed hs (ownRows (st .chip) k h st) tt (ap numberOf e) refl)
 
 -- what rows 3 to 5 leave
 module _ (k d left : ℕ) (e : headerVerdict k d left ≡ Passed) where
@@ -67,17 +68,17 @@ unfolding headerVerdict
 header-fits k d left left′ e p = simp (ne-eqb k noKind (passed-known k d left e), passed-length k d left e, le-ltb left′ (totalOf k d) p)
 
 -- an OBJECT that passes has an earlier VFE: the row of 8 that asks for one comes after the rows of 3 to 7
-pub passed-after-vfe : (capacity left : ℕ) (h : List ℕ) (cs : List Command) → judgeOf 7 left h (stateOf capacity cs) ≡ Passed → earlierVfe cs ≡ true
+pub passed-after-vfe : (target : Target) (left : ℕ) (h : List ℕ) (cs : List Command) → judgeOf 7 left h (stateOf target cs) ≡ Passed → earlierVfe cs ≡ true
 unfolding judgeOf stateOf
-passed-after-vfe capacity left h cs e =
-    let st = stateOf capacity cs in
+passed-after-vfe target left h cs e =
+    let st = stateOf target cs in
     sym (set-flag (earlierVfe cs))
-    ∙ not-false (isSet (flag (earlierVfe cs))) (no-row numberOf Passed (headerRows 7 (dword h 0) left ++ ownRows 7 h st) tt (ap numberOf e) 14)
+    ∙ not-false (isSet (flag (earlierVfe cs))) (no-row numberOf Passed (headerRows 7 (dword h 0) left ++ ownRows (st .chip) 7 h st) tt (ap numberOf e) 14)
 
 -- a kind's own dwords are among its total
-own-beyond : (k n : ℕ) → 8 ≤ k → ownDwords k ≤ cond (ltb k 3) 1 (n + 2)
+own-beyond : (k n : ℕ) → 9 ≤ k → ownDwords k ≤ cond (ltb k 3) 1 (n + 2)
 unfolding ownDwords
-own-beyond k n l = simp (le-ltb k 3 (omega arith), ne-eqb k 7 (λ e. omega arith), le-leb 3 k (omega arith), lt-leb k 7 (omega arith)) (omega arith)
+own-beyond k n l = simp (le-ltb k 3 (omega arith), ne-eqb k 7 (λ e. omega arith), le-leb 3 k (omega arith), lt-leb k 8 (omega arith)) (omega arith)
 
 own-total : (k n : ℕ) → lengthAllowed k n ≡ true → ownDwords k ≤ cond (ltb k 3) 1 (n + 2)
 unfolding lengthAllowed ownDwords
@@ -89,7 +90,8 @@ own-total (suc (suc (suc (suc zero)))) n e = let z = eqb-true n (lengthOf 4) e i
 own-total (suc (suc (suc (suc (suc zero))))) n e = let z = eqb-true n (lengthOf 5) e in omega arith
 own-total (suc (suc (suc (suc (suc (suc zero)))))) n e = let z = eqb-true n (lengthOf 6) e in omega arith
 own-total (suc (suc (suc (suc (suc (suc (suc zero))))))) n e = let z = leb-true (lengthOf 7) n e in omega arith
-own-total (suc (suc (suc (suc (suc (suc (suc (suc k)))))))) n e = own-beyond (suc (suc (suc (suc (suc (suc (suc (suc k)))))))) n (omega arith)
+own-total (suc (suc (suc (suc (suc (suc (suc (suc zero)))))))) n e = let z = eqb-true n (lengthOf 8) e in omega arith
+own-total (suc (suc (suc (suc (suc (suc (suc (suc (suc k))))))))) n e = own-beyond (suc (suc (suc (suc (suc (suc (suc (suc (suc k))))))))) n (omega arith)
 
 pub own-in-total : (k d left : ℕ) → headerVerdict k d left ≡ Passed → ownDwords k ≤ totalOf k d
 unfolding totalOf
@@ -124,4 +126,4 @@ each (r ∷ rs) t = ((λ _. both-left (inRange (r .gives)) (all-in rs) t), each 
 pub fault-number : (k left : ℕ) (h : List ℕ) (st : State) → T (inRange (judgeOf k left h st))
 unfolding judgeOf
 fault-number k left h st =
-    let rs = headerRows k (dword h 0) left ++ ownRows k h st in by-rows (λ (v : Verdict). T (inRange v)) Passed rs tt (each rs tt)
+    let rs = headerRows k (dword h 0) left ++ ownRows (st .chip) k h st in by-rows (λ (v : Verdict). T (inRange v)) Passed rs tt (each rs tt)

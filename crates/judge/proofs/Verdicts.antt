@@ -3,46 +3,77 @@ use mathlib.Core.Path.{_≡_, refl, sym, ap, _∙_}
 use native.Mathlib.Omega.{arith}
 use Prim.Native.Nat.{ℕ, _+_, _*_, _%_, _^_, _<_, _≤_}
 use native.Mathlib.Nat.{lt-of-le-of-lt, mul-le-mul}
-use mathlib.Core.Bool.{not, false}
+use mathlib.Core.Bool.{Bool, true, false, not, _&&_}
 use mathlib.Core.List.{List, [], _∷_}
 use lib.Bits.{bitAnd, and-le-r}
 use lib.Dec.{ltb, leb, eqb, lit<}
 use borrow.Author.Tests.{ne-eqb}
 use Rattle.laws.specs.Rows.{row, firstRow}
 use Rattle.laws.specs.BitRanges.{anySet}
+use Rattle.chips.specs.declared.Chip.{Chip}
+use Rattle.chips.specs.declared.Chip.the-variants.{Gen6, Gen7}
 use Rattle.masks.specs.MustBeZero.{marks, markedBits}
 use Rattle.command.specs.declared.State.{State}
 use Rattle.judge.specs.declared.Verdict.{Verdict}
 use Rattle.judge.specs.declared.Verdict.the-variants.{Fault, Passed}
 use Rattle.command.specs.Order.{isSet}
 use Rattle.command.specs.Fields.{urbEntries, entrySize, curbeSize, loadLength, loadAddress, descriptorIndex}
-use Rattle.judge.specs.Refusals.{mustBeZero, ownVerdict}
+use Rattle.judge.specs.Refusals.{mustBeZero, ownRows, ownVerdict}
 
+-- each by the tables of both chips
 module _ (h : List ℕ) (st : State) where
-  pub vfe-can : ownVerdict 3 h st ≡ firstRow Passed (
-      mustBeZero 3 h 1
-      ∷ mustBeZero 3 h 3
-      ∷ mustBeZero 3 h 5
+  abbrev own : Chip → ℕ → Verdict
+  own c k = firstRow Passed (ownRows c k h st)
+
+  vfe-on : (c : Chip) → own c 3 ≡ firstRow Passed (
+      mustBeZero c 3 h 1
+      ∷ mustBeZero c 3 h 2
+      ∷ mustBeZero c 3 h 3
+      ∷ mustBeZero c 3 h 5
       ∷ row (Fault 8 0) (isSet (st .«media_since_flush»))
       ∷ row (Fault 9 0) (ltb (st .capacity) (urbEntries h * entrySize h + curbeSize h))
       ∷ [])
-  unfolding ownVerdict markedBits marks anySet
-  vfe-can = refl
+  unfolding markedBits marks anySet
+  vfe-on Gen6 = refl
+  vfe-on Gen7 = refl
 
-  pub curbe-can : ownVerdict 4 h st ≡ firstRow Passed (
-      mustBeZero 4 h 1
-      ∷ mustBeZero 4 h 2
+  pub vfe-can : ownVerdict 3 h st ≡ firstRow Passed (
+      mustBeZero (st .chip) 3 h 1
+      ∷ mustBeZero (st .chip) 3 h 2
+      ∷ mustBeZero (st .chip) 3 h 3
+      ∷ mustBeZero (st .chip) 3 h 5
+      ∷ row (Fault 8 0) (isSet (st .«media_since_flush»))
+      ∷ row (Fault 9 0) (ltb (st .capacity) (urbEntries h * entrySize h + curbeSize h))
+      ∷ [])
+  unfolding ownVerdict
+  vfe-can = vfe-on (st .chip)
+
+  curbe-on : (c : Chip) → own c 4 ≡ firstRow Passed (
+      mustBeZero c 4 h 1
+      ∷ mustBeZero c 4 h 2
       ∷ row (Fault 7 2) (not (eqb (loadLength h % 32) 0))
       ∷ row (Fault 7 3) (not (eqb (loadAddress h % 32) 0))
       ∷ row (Fault 8 0) (not (isSet (st .«earlier_vfe»)))
       ∷ row (Fault 9 0) (ltb (32 * st .«curbe_in_force») (loadLength h))
       ∷ [])
-  unfolding ownVerdict markedBits marks anySet
-  curbe-can = refl
+  unfolding markedBits marks anySet
+  curbe-on Gen6 = refl
+  curbe-on Gen7 = refl
 
-  pub descriptor-can : ownVerdict 5 h st ≡ firstRow Passed (
-      mustBeZero 5 h 1
-      ∷ mustBeZero 5 h 2
+  pub curbe-can : ownVerdict 4 h st ≡ firstRow Passed (
+      mustBeZero (st .chip) 4 h 1
+      ∷ mustBeZero (st .chip) 4 h 2
+      ∷ row (Fault 7 2) (not (eqb (loadLength h % 32) 0))
+      ∷ row (Fault 7 3) (not (eqb (loadAddress h % 32) 0))
+      ∷ row (Fault 8 0) (not (isSet (st .«earlier_vfe»)))
+      ∷ row (Fault 9 0) (ltb (32 * st .«curbe_in_force») (loadLength h))
+      ∷ [])
+  unfolding ownVerdict
+  curbe-can = curbe-on (st .chip)
+
+  descriptor-on : (c : Chip) → own c 5 ≡ firstRow Passed (
+      mustBeZero c 5 h 1
+      ∷ mustBeZero c 5 h 2
       ∷ row (Fault 7 2) (not (eqb (loadLength h % 32) 0))
       ∷ row (Fault 7 2) (ltb (loadLength h) 32)
       ∷ row (Fault 7 2) (ltb 2048 (loadLength h))
@@ -50,41 +81,88 @@ module _ (h : List ℕ) (st : State) where
       ∷ row (Fault 8 0) (not (isSet (st .«earlier_vfe»)))
       ∷ row (Fault 8 0) (isSet (st .«object_since_flush»))
       ∷ [])
-  unfolding ownVerdict markedBits marks anySet
-  descriptor-can = refl
+  unfolding markedBits marks anySet
+  descriptor-on Gen6 = refl
+  descriptor-on Gen7 = refl
 
-  pub flush-can : ownVerdict 6 h st ≡ firstRow Passed (mustBeZero 6 h 1 ∷ [])
-  unfolding ownVerdict markedBits marks anySet
-  flush-can = refl
+  pub descriptor-can : ownVerdict 5 h st ≡ firstRow Passed (
+      mustBeZero (st .chip) 5 h 1
+      ∷ mustBeZero (st .chip) 5 h 2
+      ∷ row (Fault 7 2) (not (eqb (loadLength h % 32) 0))
+      ∷ row (Fault 7 2) (ltb (loadLength h) 32)
+      ∷ row (Fault 7 2) (ltb 2048 (loadLength h))
+      ∷ row (Fault 7 3) (not (eqb (loadAddress h % 32) 0))
+      ∷ row (Fault 8 0) (not (isSet (st .«earlier_vfe»)))
+      ∷ row (Fault 8 0) (isSet (st .«object_since_flush»))
+      ∷ [])
+  unfolding ownVerdict
+  descriptor-can = descriptor-on (st .chip)
 
-  pub object-can : ownVerdict 7 h st ≡ firstRow Passed (
-      mustBeZero 7 h 1
-      ∷ mustBeZero 7 h 2
-      ∷ mustBeZero 7 h 3
-      ∷ mustBeZero 7 h 4
-      ∷ mustBeZero 7 h 5
+  flush-on : (c : Chip) → own c 6 ≡ firstRow Passed (mustBeZero c 6 h 1 ∷ [])
+  unfolding markedBits marks anySet
+  flush-on Gen6 = refl
+  flush-on Gen7 = refl
+
+  pub flush-can : ownVerdict 6 h st ≡ firstRow Passed (mustBeZero (st .chip) 6 h 1 ∷ [])
+  unfolding ownVerdict
+  flush-can = flush-on (st .chip)
+
+  gateway-on : (c : Chip) → own c 8 ≡ firstRow Passed (mustBeZero c 8 h 1 ∷ row (Fault 8 0) (not (isSet (st .«earlier_vfe»))) ∷ [])
+  unfolding markedBits marks anySet
+  gateway-on Gen6 = refl
+  gateway-on Gen7 = refl
+
+  pub gateway-can : ownVerdict 8 h st ≡ firstRow Passed (mustBeZero (st .chip) 8 h 1 ∷ row (Fault 8 0) (not (isSet (st .«earlier_vfe»))) ∷ [])
+  unfolding ownVerdict
+  gateway-can = gateway-on (st .chip)
+
+  object-on : (c : Chip) → own c 7 ≡ firstRow Passed (
+      mustBeZero c 7 h 1
+      ∷ mustBeZero c 7 h 2
+      ∷ mustBeZero c 7 h 3
+      ∷ mustBeZero c 7 h 4
+      ∷ mustBeZero c 7 h 5
       ∷ row (Fault 8 0) (not (isSet (st .«earlier_vfe»)))
       ∷ row (Fault 8 0) (leb (st .«count_loaded») (descriptorIndex h))
       ∷ [])
-  unfolding ownVerdict markedBits marks anySet
-  object-can = refl
+  unfolding markedBits marks anySet
+  object-on Gen6 = refl
+  object-on Gen7 = refl
+
+  pub object-can : ownVerdict 7 h st ≡ firstRow Passed (
+      mustBeZero (st .chip) 7 h 1
+      ∷ mustBeZero (st .chip) 7 h 2
+      ∷ mustBeZero (st .chip) 7 h 3
+      ∷ mustBeZero (st .chip) 7 h 4
+      ∷ mustBeZero (st .chip) 7 h 5
+      ∷ row (Fault 8 0) (not (isSet (st .«earlier_vfe»)))
+      ∷ row (Fault 8 0) (leb (st .«count_loaded») (descriptorIndex h))
+      ∷ [])
+  unfolding ownVerdict
+  object-can = object-on (st .chip)
+
+and-false : (t : Bool) → t && false ≡ false
+and-false true = refl
+and-false false = refl
 
 -- no row from 6 on can hold for another kind
-module _ (k : ℕ) (n3 : k ≡ 3 → ⊥) (n4 : k ≡ 4 → ⊥) (n5 : k ≡ 5 → ⊥) (n6 : k ≡ 6 → ⊥) (n7 : k ≡ 7 → ⊥) where
-  unmarked : (i d : ℕ) → anySet (markedBits k i) d ≡ false
+module _ (k : ℕ) (n3 : k ≡ 3 → ⊥) (n4 : k ≡ 4 → ⊥) (n5 : k ≡ 5 → ⊥) (n6 : k ≡ 6 → ⊥) (n7 : k ≡ 7 → ⊥) (n8 : k ≡ 8 → ⊥) where
+  unmarked : (c : Chip) (i d : ℕ) → anySet (markedBits c k i) d ≡ false
   unfolding markedBits marks anySet
-  unmarked i d =
+  unmarked c i d =
       simp (
         ne-eqb 3 k (λ e. n3 (sym e)),
         ne-eqb 4 k (λ e. n4 (sym e)),
         ne-eqb 5 k (λ e. n5 (sym e)),
         ne-eqb 6 k (λ e. n6 (sym e)),
         ne-eqb 7 k (λ e. n7 (sym e)),
+        ne-eqb 8 k (λ e. n8 (sym e)),
+        and-false,
       )
 
   pub plain : (h : List ℕ) (st : State) → Passed ≡ ownVerdict k h st
   unfolding ownVerdict
-  plain h st = simp (unmarked, ne-eqb k 3 n3, ne-eqb k 4 n4, ne-eqb k 5 n5, ne-eqb k 7 n7)
+  plain h st = simp (unmarked, ne-eqb k 3 n3, ne-eqb k 4 n4, ne-eqb k 5 n5, ne-eqb k 7 n7, ne-eqb k 8 n8)
 
 pub as-kind : (k n : ℕ) (h : List ℕ) (st : State) (v : Verdict) → k ≡ n → v ≡ ownVerdict n h st → v ≡ ownVerdict k h st
 as-kind k n h st v p e = e ∙ ap (λ (x : ℕ). ownVerdict x h st) (sym p)

@@ -7,6 +7,7 @@ use mathlib.Core.List.{List, [], _∷_, _++_}
 use lib.Dec.{ltb, leb, eqb}
 use Rattle.laws.specs.Rows.{Row, row, firstRow}
 use Rattle.laws.specs.BitRanges.{anySet}
+use Rattle.chips.specs.declared.Chip.{Chip}
 use Rattle.command.specs.declared.State.{State}
 use Rattle.judge.specs.declared.Verdict.{Verdict}
 use Rattle.judge.specs.declared.Verdict.the-variants.{Fault, Passed}
@@ -30,29 +31,29 @@ headerRows k d left =
     ∷ row (Fault 5 0) (ltb left (totalOf k d))
     ∷ []
 
--- 6: "a must-be-zero bit is set (place: first such dword)"; here dword i of the own dwords h
-abbrev pub mustBeZero : ℕ → List ℕ → ℕ → Row Verdict
-mustBeZero k h i = row (Fault 6 i) (anySet (markedBits k i) (dword h i))
+-- 6: "a must-be-zero bit is set (place: first such dword)"; here dword i of the own dwords h, by the chip's masks
+abbrev pub mustBeZero : Chip → ℕ → List ℕ → ℕ → Row Verdict
+mustBeZero c k h i = row (Fault 6 i) (anySet (markedBits c k i) (dword h i))
 
--- Rows 6 to 9 read the own dwords h and what the commands before have set.
-abbrev pub ownRows : ℕ → List ℕ → State → List (Row Verdict)
-ownRows k h st =
-    mustBeZero k h 1
-    ∷ mustBeZero k h 2
-    ∷ mustBeZero k h 3
-    ∷ mustBeZero k h 4
-    ∷ mustBeZero k h 5
-    ∷ mustBeZero k h 6
-    ∷ mustBeZero k h 7
+-- Rows 6 to 9 read the own dwords h, by the chip's masks, and what the commands before have set.
+abbrev pub ownRows : Chip → ℕ → List ℕ → State → List (Row Verdict)
+ownRows c k h st =
+    mustBeZero c k h 1
+    ∷ mustBeZero c k h 2
+    ∷ mustBeZero c k h 3
+    ∷ mustBeZero c k h 4
+    ∷ mustBeZero c k h 5
+    ∷ mustBeZero c k h 6
+    ∷ mustBeZero c k h 7
     -- 7: "CURBE or descriptor length or address not a multiple of 32, or descriptor length outside 32 to 2,048 (H) (place: first such
     -- dword)"
     ∷ row (Fault 7 2) (isLoad k && not (eqb (loadLength h % 32) 0))
     ∷ row (Fault 7 2) (eqb k 5 && ltb (loadLength h) 32)
     ∷ row (Fault 7 2) (eqb k 5 && ltb 2048 (loadLength h))
     ∷ row (Fault 7 3) (isLoad k && not (eqb (loadAddress h % 32) 0))
-    -- 8: "kinds 4, 5, 7 need an earlier VFE"
-    ∷ row (Fault 8 0) ((isLoad k || eqb k 7) && not (isSet (st .«earlier_vfe»)))
-    -- 8: "A VFE needs that no command of kind 3, 4, 5 or 7 stands since the last MI_FLUSH or the start"
+    -- 8: "kinds 4, 5, 7 need an earlier VFE"; kind 8 "is ordered as kind 4 is"
+    ∷ row (Fault 8 0) ((isLoad k || eqb k 7 || eqb k 8) && not (isSet (st .«earlier_vfe»)))
+    -- 8: "A VFE needs that no command of kind 3, 4, 5 or 7 stands since the last MI_FLUSH or the start"; kind 8 is "counting with" kind 4
     ∷ row (Fault 8 0) (eqb k 3 && isSet (st .«media_since_flush»))
     -- 8: "A descriptor load needs that no OBJECT stands since the last kind 1 or 6"
     ∷ row (Fault 8 0) (eqb k 5 && isSet (st .«object_since_flush»))
@@ -66,14 +67,14 @@ ownRows k h st =
 
 -- rows 3 to 9; the first row that holds decides
 unfoldable pub judgeOf : ℕ → ℕ → List ℕ → State → Verdict
-judgeOf k left h st = firstRow Passed (headerRows k (dword h 0) left ++ ownRows k h st)
+judgeOf k left h st = firstRow Passed (headerRows k (dword h 0) left ++ ownRows (st .chip) k h st)
 
 -- its halves, as the code asks them
 unfoldable pub headerVerdict : ℕ → ℕ → ℕ → Verdict
 headerVerdict k d left = firstRow Passed (headerRows k d left)
 
 unfoldable pub ownVerdict : ℕ → List ℕ → State → Verdict
-ownVerdict k h st = firstRow Passed (ownRows k h st)
+ownVerdict k h st = firstRow Passed (ownRows (st .chip) k h st)
 
 -- does a verdict let a command pass?
 abbrev pub isPassed : Verdict → Bool

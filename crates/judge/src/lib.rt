@@ -27,6 +27,7 @@ fn length_allowed(k: u32, d: u32) -> bool
         4 => n == 2,
         5 => n == 2,
         6 => n == 0,
+        8 => n == 0,
         _ => false,
     }
 }
@@ -50,13 +51,17 @@ pub fn header_verdict(k: u32, d: u32, left: usize) -> Verdict
 fn vfe(h: [u32; 8], st: State) -> Verdict
     ensures { λ r. ⌜ r ≡ ownVerdict 3 h st ⌝ }
 {
-    if marked(3, 1, h[1]) {
+    let chip = st.chip;
+    if marked(chip, 3, 1, h[1]) {
         return Verdict::Fault { number: 6, skip: 1 };
     }
-    if marked(3, 3, h[3]) {
+    if marked(chip, 3, 2, h[2]) {
+        return Verdict::Fault { number: 6, skip: 2 };
+    }
+    if marked(chip, 3, 3, h[3]) {
         return Verdict::Fault { number: 6, skip: 3 };
     }
-    if marked(3, 5, h[5]) {
+    if marked(chip, 3, 5, h[5]) {
         return Verdict::Fault { number: 6, skip: 5 };
     }
     if st.media_since_flush != 0 {
@@ -71,10 +76,11 @@ fn vfe(h: [u32; 8], st: State) -> Verdict
 fn curbe_load(h: [u32; 8], st: State) -> Verdict
     ensures { λ r. ⌜ r ≡ ownVerdict 4 h st ⌝ }
 {
-    if marked(4, 1, h[1]) {
+    let chip = st.chip;
+    if marked(chip, 4, 1, h[1]) {
         return Verdict::Fault { number: 6, skip: 1 };
     }
-    if marked(4, 2, h[2]) {
+    if marked(chip, 4, 2, h[2]) {
         return Verdict::Fault { number: 6, skip: 2 };
     }
     let length = h[2] & 0x1_ffff;
@@ -96,10 +102,11 @@ fn curbe_load(h: [u32; 8], st: State) -> Verdict
 fn descriptor_load(h: [u32; 8], st: State) -> Verdict
     ensures { λ r. ⌜ r ≡ ownVerdict 5 h st ⌝ }
 {
-    if marked(5, 1, h[1]) {
+    let chip = st.chip;
+    if marked(chip, 5, 1, h[1]) {
         return Verdict::Fault { number: 6, skip: 1 };
     }
-    if marked(5, 2, h[2]) {
+    if marked(chip, 5, 2, h[2]) {
         return Verdict::Fault { number: 6, skip: 2 };
     }
     let length = h[2] & 0x1_ffff;
@@ -127,8 +134,22 @@ fn descriptor_load(h: [u32; 8], st: State) -> Verdict
 fn state_flush(h: [u32; 8], st: State) -> Verdict
     ensures { λ r. ⌜ r ≡ ownVerdict 6 h st ⌝ }
 {
-    if marked(6, 1, h[1]) {
+    let chip = st.chip;
+    if marked(chip, 6, 1, h[1]) {
         return Verdict::Fault { number: 6, skip: 1 };
+    }
+    Verdict::Passed
+}
+
+fn gateway_state(h: [u32; 8], st: State) -> Verdict
+    ensures { λ r. ⌜ r ≡ ownVerdict 8 h st ⌝ }
+{
+    let chip = st.chip;
+    if marked(chip, 8, 1, h[1]) {
+        return Verdict::Fault { number: 6, skip: 1 };
+    }
+    if st.earlier_vfe == 0 {
+        return Verdict::Fault { number: 8, skip: 0 };
     }
     Verdict::Passed
 }
@@ -136,19 +157,20 @@ fn state_flush(h: [u32; 8], st: State) -> Verdict
 fn object(h: [u32; 8], st: State) -> Verdict
     ensures { λ r. ⌜ r ≡ ownVerdict 7 h st ⌝ }
 {
-    if marked(7, 1, h[1]) {
+    let chip = st.chip;
+    if marked(chip, 7, 1, h[1]) {
         return Verdict::Fault { number: 6, skip: 1 };
     }
-    if marked(7, 2, h[2]) {
+    if marked(chip, 7, 2, h[2]) {
         return Verdict::Fault { number: 6, skip: 2 };
     }
-    if marked(7, 3, h[3]) {
+    if marked(chip, 7, 3, h[3]) {
         return Verdict::Fault { number: 6, skip: 3 };
     }
-    if marked(7, 4, h[4]) {
+    if marked(chip, 7, 4, h[4]) {
         return Verdict::Fault { number: 6, skip: 4 };
     }
-    if marked(7, 5, h[5]) {
+    if marked(chip, 7, 5, h[5]) {
         return Verdict::Fault { number: 6, skip: 5 };
     }
     if st.earlier_vfe == 0 {
@@ -170,6 +192,7 @@ pub fn own_verdict(k: u32, h: [u32; 8], st: State) -> Verdict
         4 => curbe_load(h, st),
         5 => descriptor_load(h, st),
         6 => state_flush(h, st),
+        8 => gateway_state(h, st),
         _ => Verdict::Passed,
     }
 }
@@ -179,7 +202,13 @@ pub fn own_verdict(k: u32, h: [u32; 8], st: State) -> Verdict
 fn sound_object(h: [u32; 8], st: State) -> bool
     ensures { λ r. ⌜ Vouches 7 h st r ⌝ }
 {
-    if stray(7, 2, h[2]) | stray(7, 3, h[3]) | stray(7, 4, h[4]) | stray(7, 5, h[5]) != 0 {
+    let chip = st.chip;
+    if stray(chip, 7, 2, h[2])
+        | stray(chip, 7, 3, h[3])
+        | stray(chip, 7, 4, h[4])
+        | stray(chip, 7, 5, h[5])
+        != 0
+    {
         return false;
     }
     if st.earlier_vfe == 0 {
@@ -209,6 +238,7 @@ pub fn sound(k: u32, h: [u32; 8], st: State) -> bool
         4 => passed(curbe_load(h, st)),
         5 => passed(descriptor_load(h, st)),
         6 => passed(state_flush(h, st)),
+        8 => passed(gateway_state(h, st)),
         0 => true,
         _ => false,
     }

@@ -3,22 +3,24 @@ use mathlib.Core.Path.{_≡_, ap}
 use mathlib.Core.List.{List, _++_}
 use Prim.Native.Nat.{ℕ}
 use lib.ListN.{length, drop}
+use Rattle.chips.specs.declared.Chip.{Chip}
+use Rattle.chips.specs.Chips.{target}
 use Rattle.words.specs.Dwords.{dwordsOf}
 use Rattle.reading.specs.Reading.{Reading}
 use Rattle.reading.specs.Isolation.{BytesAlike}
 use Rattle.reading.proofs.Isolation.{alike-reading, bytes-alike}
 use Rattle.listing.specs.Listing.{readText, batchText, textOf, listedIn}
 
-module _ (b b′ : List ℕ) (h : BytesAlike 2048 b b′) where
-  alike-batch : batchText (dwordsOf b) ≡ batchText (dwordsOf b′)
+module _ (chip : Chip) (b b′ : List ℕ) (h : BytesAlike (target chip 2048) b b′) where
+  alike-batch : batchText chip (dwordsOf b) ≡ batchText chip (dwordsOf b′)
   unfolding batchText
-  alike-batch = ap (λ (r : Reading). readText (r .passed) (r .stop)) (alike-reading 2048 (dwordsOf b) (dwordsOf b′) (bytes-alike 2048 b b′ h))
+  alike-batch = ap (λ (r : Reading). readText (r .passed) (r .stop)) (alike-reading (target chip 2048) (dwordsOf b) (dwordsOf b′) (bytes-alike (target chip 2048) b b′ h))
 
   -- LAW: one text
-  pub alike-text : textOf b ≡ textOf b′
+  pub alike-text : textOf chip b ≡ textOf chip b′
   unfolding textOf
   alike-text = simp (h .size, alike-batch)
 
   -- LAW: one text buffer at exit
-  pub alike-buffer : (text : List ℕ) → listedIn b text ≡ listedIn b′ text
+  pub alike-buffer : (text : List ℕ) → listedIn chip b text ≡ listedIn chip b′ text
   alike-buffer text = ap (λ (t : List ℕ). t ++ drop (length t) text) alike-text

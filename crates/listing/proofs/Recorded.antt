@@ -23,8 +23,8 @@ pub lines-again : (records o m n : List ℕ) (from i j k p q s : ℕ) → from �
 unfolding recordLines
 lines-again records o m n from i j k p q s h ep eq es u v = rw (add-one i) (then h u (rw es at (rw eq at (rw ep at v))))
 
-pub kind-named : (records : List ℕ) (n i s : ℕ) → KindsNamed records n → i < n → s ≡ slot i 0 → getD records s 0 < 8
-kind-named records n i s h p e = subst (λ (k : ℕ). getD records k 0 < 8) (sym e) (h i p)
+pub kind-named : (records : List ℕ) (n i s : ℕ) → KindsNamed records n → i < n → s ≡ slot i 0 → getD records s 0 < 9
+kind-named records n i s h p e = subst (λ (k : ℕ). getD records k 0 < 9) (sym e) (h i p)
 
 pub lines-done : (records o m : List ℕ) (from i n j : ℕ) → i ≤ n → n ≤ i → Wrote o from (recordLines records i) m j → Wrote o from (recordLines records n) m j
 lines-done records o m from i n j h l w = let e : i ≡ n = omega arith in rw e at w
@@ -72,10 +72,10 @@ module _ (cs : List Command) (r : List ℕ) (h : 16 * length cs ≤ length r) wh
       ∙ ap (λ (a : ℕ). linesOf (take i cs) ++ lineOf (x .place) (x .kind) a) t
       ∙ sym (lines-snoc cs i (omega arith))
 
-  pub records-named : ((i : ℕ) → i < length cs → commandNumber cs i .kind < 8) → KindsNamed records (length cs)
+  pub records-named : ((i : ℕ) → i < length cs → commandNumber cs i .kind < 9) → KindsNamed records (length cs)
   records-named known i l =
       let k = word-at cs r i 0 noCommand h l (omega arith) ∙ kind-word (commandNumber cs i) in
-      subst (λ (x : ℕ). x < 8) (sym k) (known i l)
+      subst (λ (x : ℕ). x < 9) (sym k) (known i l)
 
   pub recorded-lines : recordLines records (length cs) ≡ linesOf cs
   recorded-lines = first-lines (length cs) (omega arith) ∙ ap linesOf (take-length cs)

@@ -1,9 +1,11 @@
--- The listing's text: document 01, "The listing".
+-- The listing's text, for a chip: document 01, "The listing"; document 02, One, "A second listing program reads Gen6".
 use mathlib.Core.Bool.{cond}
 use mathlib.Core.List.{List, [], _∷_, _++_}
 use Prim.Native.Nat.{ℕ}
 use lib.Dec.{ltb}
 use lib.ListN.{length, drop}
+use Rattle.chips.specs.declared.Chip.{Chip}
+use Rattle.chips.specs.Chips.{target}
 use Rattle.words.specs.Dwords.{dwordsOf}
 use Rattle.command.specs.Order.{Command}
 use Rattle.reading.specs.Reading.{Stop, ended, stopped, readingOf}
@@ -21,20 +23,20 @@ readText cs (ended dwords) = linesOf cs ++ acceptedLine (length cs) dwords
 readText cs (stopped number place) = refusedLine number place
 
 -- "as little-endian dwords, capacity 2,048 rows"
-unfoldable pub batchText : List ℕ → List ℕ
-batchText b = readText (readingOf 2048 b .passed) (readingOf 2048 b .stop)
+unfoldable pub batchText : Chip → List ℕ → List ℕ
+batchText c b = let r = readingOf (target c 2048) b in readText (r .passed) (r .stop)
 
 -- 17, of the input
 abbrev pub oddText : List ℕ → List ℕ
 oddText input = partDword refusedLine input
 
 -- "reads at most 4,096 bytes (more: 1) .. (that test precedes 17)"
-unfoldable pub textOf : List ℕ → List ℕ
-textOf input =
+unfoldable pub textOf : Chip → List ℕ → List ℕ
+textOf c input =
     markLine
     ++ cond (ltb 4096 (length input)) (refusedLine 1 0)
-    (wholeDwords refusedLine input (batchText (dwordsOf input)))
+    (wholeDwords refusedLine input (batchText c (dwordsOf input)))
 
 -- the lent text buffer at exit: the text, then the buffer's bytes as they were
-abbrev pub listedIn : List ℕ → List ℕ → List ℕ
-listedIn input text = textOf input ++ drop (length (textOf input)) text
+abbrev pub listedIn : Chip → List ℕ → List ℕ → List ℕ
+listedIn c input text = textOf c input ++ drop (length (textOf c input)) text

@@ -7,7 +7,7 @@ use Rattle.text.specs.Lines.{lineOf}
 
 -- the first n records are of kinds that have a name
 abbrev pub KindsNamed : List ℕ → ℕ → Type 0
-KindsNamed records n = (i : ℕ) → i < n → getD records (slot i 0) 0 < 8
+KindsNamed records n = (i : ℕ) → i < n → getD records (slot i 0) 0 < 9
 
 -- the lines of the first n records; `recorded-lines` of proofs/Recorded.antt shows that these are the lines of the commands
 unfoldable pub recordLines : List ℕ → ℕ → List ℕ

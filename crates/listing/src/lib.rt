@@ -7,6 +7,8 @@ ghost use Rattle.words.specs.Dwords.{dwordsOf};
 ghost use Rattle.text.specs.Writing.{Wrote};
 ghost use Rattle.listing.specs.Listing.{oddText, batchText, textOf, listedIn};
 ghost use Rattle.listing.specs.RecordLines.{KindsNamed, recordLines};
+use chips::Chip;
+use chips::Target;
 use reading::Scanned;
 use reading::decide;
 use records::fill;
@@ -43,31 +45,35 @@ fn odd(text: &mut [u8], at: usize, input: &[u8]) -> usize
 
 // The lines of a batch of whole dwords, at most 1,024 of 46 bytes and one of 51. There is room for a record to each dword, so 10 never
 // occurs.
-fn outcome(text: &mut [u8], at: usize, input: &[u8]) -> usize
+fn outcome(chip: Chip, text: &mut [u8], at: usize, input: &[u8]) -> usize
     requires { ⌜ (length (now input) ≤ 4096) × (at + 47155 ≤ length (now text)) ⌝ }
-    ensures { λ r. ⌜ Wrote (now (text .entry)) at (batchText (dwordsOf (now (input .entry)))) (now (text .exit)) r × (r ≤ at + 47155) ⌝ }
+    ensures { λ r. ⌜ Wrote (now (text .entry)) at (batchText chip (dwordsOf (now (input .entry)))) (now (text .exit)) r × (r ≤ at + 47155) ⌝ }
 {
+    let target = Target {
+        chip,
+        capacity: 2048,
+    };
     let none: [u32; 0] = [];
     let mut empty: [u8; 0] = [];
     let mut records = [0u32; 16384];
-    match decide(&none, input, 2048, 16384) {
+    match decide(target, &none, input, 16384) {
         Scanned::Stopped { number, place } => refused(text, at, number as u64, place as u64),
         Scanned::Ended {
             commands,
             dwords,
             objects,
         } => {
-            fill(&none, input, 2048, &mut records, &mut empty);
+            fill(target, &none, input, &mut records, &mut empty);
             let end = lines(text, at, &records, commands);
             accepted(text, end, commands as u64, dwords as u64)
         }
     }
 }
 
-// The text of an input of any length, and how many bytes it has: 47,161 at most. The rest of the buffer is as it was.
-pub fn list(input: &[u8], text: &mut [u8; 49152]) -> usize
-    ensures { λ r. ⌜ (now (text .exit) ≡ listedIn (now (input .entry)) (now (text .entry)))
-        × (r ≡ length (textOf (now (input .entry)))) × Counts r (now (text .exit)) ⌝ }
+// The text of an input of any length, for a chip, and how many bytes it has: 47,161 at most. The rest of the buffer is as it was.
+pub fn list(chip: Chip, input: &[u8], text: &mut [u8; 49152]) -> usize
+    ensures { λ r. ⌜ (now (text .exit) ≡ listedIn chip (now (input .entry)) (now (text .entry)))
+        × (r ≡ length (textOf chip (now (input .entry)))) × Counts r (now (text .exit)) ⌝ }
 {
     let at = put(text, 0, b"MPL 1\n", 0, 6);
     if 4096 < input.len() {
@@ -76,5 +82,5 @@ pub fn list(input: &[u8], text: &mut [u8; 49152]) -> usize
     if input.len() % 4 != 0 {
         return odd(text, at, input);
     }
-    outcome(text, at, input)
+    outcome(chip, text, at, input)
 }

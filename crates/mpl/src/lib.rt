@@ -7,24 +7,30 @@ ghost use Rattle.gateway.specs.Replay.{replayOf};
 
 // The batch check over little-endian bytes.
 #[no_mangle]
-pub extern "C" fn mpl_check_batch(batch: &[u8], capacity: u32, records: &mut [u8]) -> batch::Answer
-    ensures { λ r. ⌜ (r ≡ bytesAnswerOf capacity (now (batch .entry)) (now (records .entry)))
-        × (now (records .exit) ≡ bytesRecordsOf capacity (now (batch .entry)) (now (records .entry))) ⌝ }
+pub extern "C" fn mpl_check_batch(
+    chip: u32,
+    batch: &[u8],
+    capacity: u32,
+    records: &mut [u8],
+) -> batch::Answer
+    ensures { λ r. ⌜ (r ≡ bytesAnswerOf chip capacity (now (batch .entry)) (now (records .entry)))
+        × (now (records .exit) ≡ bytesRecordsOf chip capacity (now (batch .entry)) (now (records .entry))) ⌝ }
 {
-    batch::check_bytes(batch, capacity, records)
+    batch::check_bytes(chip, batch, capacity, records)
 }
 
 // The batch check over dwords.
 #[no_mangle]
 pub extern "C" fn mpl_check_batch_dwords(
+    chip: u32,
     batch: &[u32],
     capacity: u32,
     records: &mut [u32],
 ) -> batch::Answer
-    ensures { λ r. ⌜ (r ≡ answerOf capacity (now (batch .entry)) (now (records .entry)))
-        × (now (records .exit) ≡ recordsOf capacity (now (batch .entry)) (now (records .entry))) ⌝ }
+    ensures { λ r. ⌜ (r ≡ answerOf chip capacity (now (batch .entry)) (now (records .entry)))
+        × (now (records .exit) ≡ recordsOf chip capacity (now (batch .entry)) (now (records .entry))) ⌝ }
 {
-    batch::check(batch, capacity, records)
+    batch::check(chip, batch, capacity, records)
 }
 
 // How many of the eight deltas are in play for an object, and the lowest of them.
@@ -42,6 +48,7 @@ pub extern "C" fn mpl_deltas_in_play(
 // The order check over little-endian bytes.
 #[no_mangle]
 pub extern "C" fn mpl_check_order(
+    chip: u32,
     batch: &[u8],
     capacity: u32,
     run: &[u8],
@@ -49,14 +56,15 @@ pub extern "C" fn mpl_check_order(
     states: &mut [u8],
 ) -> scoreboard::Answer
     ensures { λ r. ⌜ record { answer = r; records = now (records .exit); states = now (states .exit) }
-        ≡ bytesOrderOf capacity (now (batch .entry)) (now (run .entry)) (now (records .entry)) (now (states .entry)) ⌝ }
+        ≡ bytesOrderOf chip capacity (now (batch .entry)) (now (run .entry)) (now (records .entry)) (now (states .entry)) ⌝ }
 {
-    scoreboard::check_bytes(batch, capacity, run, records, states)
+    scoreboard::check_bytes(chip, batch, capacity, run, records, states)
 }
 
 // The order check over dwords.
 #[no_mangle]
 pub extern "C" fn mpl_check_order_dwords(
+    chip: u32,
     batch: &[u32],
     capacity: u32,
     run: &[u32],
@@ -64,9 +72,9 @@ pub extern "C" fn mpl_check_order_dwords(
     states: &mut [u8],
 ) -> scoreboard::Answer
     ensures { λ r. ⌜ record { answer = r; records = now (records .exit); states = now (states .exit) }
-        ≡ orderOf capacity (now (batch .entry)) (now (run .entry)) (now (records .entry)) (now (states .entry)) ⌝ }
+        ≡ orderOf chip capacity (now (batch .entry)) (now (run .entry)) (now (records .entry)) (now (states .entry)) ⌝ }
 {
-    scoreboard::check(batch, capacity, run, records, states)
+    scoreboard::check(chip, batch, capacity, run, records, states)
 }
 
 // The gateway replay.

@@ -1,4 +1,5 @@
--- Document 01, "Proved examples": P1 to P10, one table. Each has its whole answer and the bytes that it speaks of.
+-- Document 01, "Proved examples": P1 to P10, one table, on Gen7; and one batch for the chips of document 02, One. Each has its whole answer
+-- and the bytes that it speaks of.
 use mathlib.Core.Path.{_≡_}
 use mathlib.Core.List.{List, [], _∷_, _++_}
 use Prim.Native.Nat.{ℕ}
@@ -17,9 +18,9 @@ use Rattle.gateway.specs.Replay.{emptyBarrier, replayOf}
 pub data Case : Type 0 where
   -- a nibble and its delta
   Nibble : ℕ → ℤ → Case
-  -- the capacity in rows, a batch, and its answer; there is room for four records
-  Batch : ℕ → List ℕ → Answer → Case
-  -- a batch, a run, its answer, and the states of two objects
+  -- the chip's number, the capacity in rows, a batch, and its answer; there is room for four records
+  Batch : ℕ → ℕ → List ℕ → Answer → Case
+  -- a batch on Gen7, a run, its answer, and the states of two objects
   Order : List ℕ → List ℕ → orders.Answer → List ℕ → Case
   -- A recording of one thread: its end answer, the outcomes, the counts, and the registers' bytes from an index on. Registers begin with 1
   -- in every byte, and counts and outcomes with 9.
@@ -28,9 +29,9 @@ pub data Case : Type 0 where
 -- what a case says
 abbrev pub Holds : Case → Type 0
 Holds (Nibble n z) = deltaOf n ≡ z
-Holds (Batch capacity b a) = answerOf capacity b (replicate 64 0) ≡ a
+Holds (Batch chip capacity b a) = answerOf chip capacity b (replicate 64 0) ≡ a
 Holds (Order b run a s) =
-    let end = orderOf 2048 b run (replicate 96 0) (9 ∷ 9 ∷ []) in (end .answer ≡ a) × (end .states ≡ s)
+    let end = orderOf 7 2048 b run (replicate 96 0) (9 ∷ 9 ∷ []) in (end .answer ≡ a) × (end .states ≡ s)
 Holds (Recording rec a outs counts at bytes) =
     let end = replayOf rec (replicate 4096 1) (9 ∷ 9 ∷ []) (replicate (length outs) 9) in
     (end .answer ≡ a) × (end .outcomes ≡ outs) × (end .counts ≡ counts) × (take (length bytes) (drop at (end .registers)) ≡ bytes)
@@ -48,6 +49,10 @@ worked =
     ∷ 0x7100_0004 ∷ 0 ∷ 0 ∷ 0 ∷ 0 ∷ 0
     ∷ 0x0500_0000
     ∷ []
+
+-- a VFE, a MEDIA_GATEWAY_STATE and END
+abbrev pub gateway : List ℕ
+gateway = 0x7000_0006 ∷ 0 ∷ 0x0007_0100 ∷ 0 ∷ 0x0002_0004 ∷ 0 ∷ 0 ∷ 0 ∷ 0x7003_0000 ∷ 0x0003_0201 ∷ 0x0500_0000 ∷ []
 
 -- two objects at Y = 0 and the X given, both with delta 0 in play, which is -1 in X and 0 in Y; not stalling
 abbrev pub blocks : ℕ → ℕ → List ℕ
@@ -85,10 +90,10 @@ table =
     ∷ Nibble 8 (negsuc 7)
     ∷ Nibble 15 (negsuc 0)
     -- "P2 the case above needs 6 rows: capacity 6 passes, 5 gives 9"
-    ∷ Batch 6 worked (acceptedAnswer 4 19)
-    ∷ Batch 5 worked (refusedAnswer 9 0)
+    ∷ Batch 7 6 worked (acceptedAnswer 4 19)
+    ∷ Batch 7 5 worked (refusedAnswer 9 0)
     -- "P3 empty batch: 2 at 0"
-    ∷ Batch 6 [] (refusedAnswer 2 0)
+    ∷ Batch 7 6 [] (refusedAnswer 2 0)
     -- "P4 X = 0 with delta -1 waits for nobody at 511"; X = 1 waits for X = 0
     ∷ Order (blocks 511 0) (0 ∷ 2 ∷ []) (ran 0 2 0 0) (1 ∷ 1 ∷ [])
     ∷ Order (blocks 0 1) (0 ∷ 2 ∷ []) (ran 25 1 0 0) (1 ∷ 0 ∷ [])
@@ -110,4 +115,8 @@ table =
     ∷ Recording (recording 0 3 1 (event 4 0 0 0 0 0 0)) (ended closed) (0 ∷ []) (1 ∷ 0 ∷ []) 0 (1 ∷ [])
     -- "P10 a self-forward under its own ack register: the ack's four bytes win"; both are register 0, and the forward is of 8 bytes
     ∷ Recording (recording 1 255 1 (event 2 1 0 0 3 0 0)) (ended closed) (0 ∷ []) none 0 (0 ∷ 0 ∷ 0 ∷ 0 ∷ 7 ∷ 7 ∷ 7 ∷ 7 ∷ 1 ∷ [])
+    -- "MEDIA_GATEWAY_STATE on Gen7 stays 3"; "18, chip neither 6 nor 7, checked before all others"
+    ∷ Batch 6 6 gateway (acceptedAnswer 3 11)
+    ∷ Batch 7 6 gateway (refusedAnswer 3 8)
+    ∷ Batch 8 6 gateway (refusedAnswer 18 0)
     ∷ []

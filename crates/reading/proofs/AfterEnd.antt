@@ -6,6 +6,7 @@ use Prim.Native.Nat.{ℕ, _+_, _*_, _<_, _≤_}
 use native.Mathlib.Omega.{arith}
 use lib.ListN.{length, getD, take, List·getD-append}
 use lib.Seq.{getD-take, length-take-le}
+use Rattle.chips.specs.declared.Target.{Target}
 use Rattle.words.specs.Dwords.{dwordsOf}
 use Rattle.words.proofs.Dwords.{length-dwords}
 use Rattle.command.specs.Order.{Command}
@@ -17,9 +18,9 @@ use Rattle.reading.proofs.Same.{same-reading}
 use Rattle.reading.proofs.Isolation.{dwords-count, dword-same}
 
 -- END stands inside the batch
-within : (capacity : ℕ) (b : List ℕ) {cs : List Command} {at : ℕ} {xs : List Command} {d : ℕ} → EndToEnd capacity b cs at xs (ended d) → d ≤ length b
-within capacity b (last p s q) = omega arith
-within capacity b (next p s n r) = within capacity b r
+within : (target : Target) (b : List ℕ) {cs : List Command} {at : ℕ} {xs : List Command} {d : ℕ} → EndToEnd target b cs at xs (ended d) → d ≤ length b
+within target b (last p s q) = omega arith
+within target b (next p s n r) = within target b r
 
 -- a list of one length that starts with the first d of another
 others-before : (l others : List ℕ) (d i : ℕ) → d ≤ length l → i < d → getD l i 0 ≡ getD (take d l ++ others) i 0
@@ -28,29 +29,29 @@ others-before l others d i h p =
     sym (List·getD-append (take d l) others 0 i (omega arith) ∙ getD-take d l i 0 p)
 
 -- the same dwords up to END, and one length: one reading
-module _ (capacity : ℕ) (b b′ : List ℕ) (cs : List Command) (d : ℕ) (laid : EndToEnd capacity b [] 0 cs (ended d)) (e : length b ≡ length b′)
+module _ (target : Target) (b b′ : List ℕ) (cs : List Command) (d : ℕ) (laid : EndToEnd target b [] 0 cs (ended d)) (e : length b ≡ length b′)
     (same : (i : ℕ) → i < d → getD b i 0 ≡ getD b′ i 0) where
-  ends : readingOf capacity b .stop ≡ ended d
-  ends = ap (λ (r : Reading). r .stop) (laid-reading capacity b cs (ended d) laid)
+  ends : readingOf target b .stop ≡ ended d
+  ends = ap (λ (r : Reading). r .stop) (laid-reading target b cs (ended d) laid)
 
-  before-end : (i : ℕ) → (Unread (readingOf capacity b) i → ⊥) → i < d
+  before-end : (i : ℕ) → (Unread (readingOf target b) i → ⊥) → i < d
   before-end i u = let z : d ≤ i → ⊥ = λ p. u (inr (subst (λ (s : Stop). AfterEnd s i) (sym ends) p)) in omega arith
 
-  one-reading : readingOf capacity b ≡ readingOf capacity b′
-  one-reading = same-reading capacity b b′ e (λ i u. same i (before-end i u))
+  one-reading : readingOf target b ≡ readingOf target b′
+  one-reading = same-reading target b b′ e (λ i u. same i (before-end i u))
 
 -- LAW: any other dwords after END, the length kept, have one reading
-pub after-end : (capacity : ℕ) (b : List ℕ) (cs : List Command) (d : ℕ) → EndToEnd capacity b [] 0 cs (ended d) → (others : List ℕ)
-    → length b ≡ length (take d b ++ others) → readingOf capacity b ≡ readingOf capacity (take d b ++ others)
-after-end capacity b cs d laid others e =
-    one-reading capacity b (take d b ++ others) cs d laid e (λ i p. others-before b others d i (within capacity b laid) p)
+pub after-end : (target : Target) (b : List ℕ) (cs : List Command) (d : ℕ) → EndToEnd target b [] 0 cs (ended d) → (others : List ℕ)
+    → length b ≡ length (take d b ++ others) → readingOf target b ≡ readingOf target (take d b ++ others)
+after-end target b cs d laid others e =
+    one-reading target b (take d b ++ others) cs d laid e (λ i p. others-before b others d i (within target b laid) p)
 
 -- LAW: the same over bytes
-pub bytes-after-end : (capacity : ℕ) (b : List ℕ) (cs : List Command) (d : ℕ) → EndToEnd capacity (dwordsOf b) [] 0 cs (ended d) → (others : List ℕ)
-    → length b ≡ length (take (4 * d) b ++ others) → readingOf capacity (dwordsOf b) ≡ readingOf capacity (dwordsOf (take (4 * d) b ++ others))
-bytes-after-end capacity b cs d laid others e =
+pub bytes-after-end : (target : Target) (b : List ℕ) (cs : List Command) (d : ℕ) → EndToEnd target (dwordsOf b) [] 0 cs (ended d) → (others : List ℕ)
+    → length b ≡ length (take (4 * d) b ++ others) → readingOf target (dwordsOf b) ≡ readingOf target (dwordsOf (take (4 * d) b ++ others))
+bytes-after-end target b cs d laid others e =
     let b′ = take (4 * d) b ++ others in
-    let w = within capacity (dwordsOf b) laid in
+    let w = within target (dwordsOf b) laid in
     let n = length-dwords b in
-    one-reading capacity (dwordsOf b) (dwordsOf b′) cs d laid (dwords-count b b′ e)
+    one-reading target (dwordsOf b) (dwordsOf b′) cs d laid (dwords-count b b′ e)
     (λ i p. dword-same b b′ e i (λ k q. others-before b others (4 * d) k (omega arith) (omega arith)))

@@ -9,6 +9,7 @@ use lib.ListN.{length, getD, drop, length-drop}
 use lib.Seq.{drop-drop}
 use lib.Dec.{ltb}
 use borrow.Author.Tests.{ltb-true, ltb-false, eq-eqb, ne-eqb}
+use Rattle.chips.specs.declared.Target.{Target}
 use Rattle.laws.proofs.Choices.{by-test, not-both}
 use Rattle.command.specs.declared.State.{State}
 use Rattle.judge.specs.declared.Verdict.{Verdict}
@@ -16,7 +17,7 @@ use Rattle.judge.specs.declared.Verdict.the-variants.{Fault, Passed}
 use Rattle.command.specs.Kinds.{kindOf, lengthField, lengthAllowed, totalOf, headOf}
 use Rattle.command.specs.Order.{Command, stateOf, stateAfter}
 use Rattle.judge.specs.Refusals.{headerVerdict, judgeOf}
-use Rattle.command.proofs.Heads.{none-allowed}
+use Rattle.command.proofs.Heads.{none-allowed, kind-eight}
 use Rattle.command.proofs.Order.{state-after}
 use Rattle.judge.proofs.Judged.{total-pos, passed-header, passed-length}
 use Rattle.reading.specs.Reading.{Stop, ended, stopped, Reading, reading, andThen, commandAt, read, readingOf}
@@ -27,141 +28,145 @@ use Rattle.reading.specs.EndToEnd.{commandIn, verdictIn, Stands, EndToEn
 use Rattle.reading.proofs.Verdicts.{by-verdict}
 use Rattle.reading.proofs.Walk.{read-walk, then, turn-at, walk-end, passes-in}
 
--- past the table's eight kinds no length field is allowed
-known-kind : (k d left : ℕ) → headerVerdict k d left ≡ Passed → k < 8
+-- past the table's kinds no length field is allowed
+known-kind : (k d left : ℕ) → headerVerdict k d left ≡ Passed → k < 9
 known-kind k d left e =
-    by-test (ltb k 8) (ltb-true k 8)
-    (λ t. let l = ltb-false k 8 t in
+    by-test (ltb k 9) (ltb-true k 9)
+    (λ t. let l = ltb-false k 9 t in
     absurd (not-both (lengthAllowed k (lengthField d)) (passed-length k d left e)
-    (sym (none-allowed k (λ q. omega arith) (λ q. omega arith) (λ q. omega arith) (λ q. omega arith) (λ q. omega arith) (lengthField d) (omega arith)))))
+    (sym (none-allowed k (λ q. omega arith) (λ q. omega arith) (λ q. omega arith) (λ q. omega arith) (λ q. omega arith) (λ q. omega arith) (lengthField d) (omega arith)))))
 
 -- d is the first dword at a place, ds the dwords after it
-module _ (capacity : ℕ) (b : List ℕ) (cs : List Command) (at d : ℕ) (ds : List ℕ) (e : drop at b ≡ d ∷ ds) where
+module _ (target : Target) (b : List ℕ) (cs : List Command) (at d : ℕ) (ds : List ℕ) (e : drop at b ≡ d ∷ ds) where
   abbrev st : State
-  st = stateOf capacity cs
+  st = stateOf target cs
 
   abbrev c : Command
-  c = commandAt (kindOf d) (d ∷ ds) at st
+  c = commandAt (kindOf (target .chip) d) (d ∷ ds) at st
 
   abbrev verdict : Verdict
-  verdict = judgeOf (kindOf d) (suc (length ds)) (headOf (kindOf d) (d ∷ ds)) st
+  verdict = judgeOf (kindOf (target .chip) d) (suc (length ds)) (headOf (kindOf (target .chip) d) (d ∷ ds)) st
 
   inside : length b ≡ at + suc (length ds)
   inside = let n : length b - at ≡ suc (length ds) = sym (length-drop at b) ∙ ap length e in omega arith
 
-  verdict-is : verdictIn capacity b cs at ≡ verdict
-  verdict-is = ap (λ (l : List ℕ). judgeOf (kindOf (getD l 0 0)) (length l) (headOf (kindOf (getD l 0 0)) l) st) e
+  verdict-is : verdictIn target b cs at ≡ verdict
+  verdict-is = ap (λ (l : List ℕ). judgeOf (kindOf (target .chip) (getD l 0 0)) (length l) (headOf (kindOf (target .chip) (getD l 0 0)) l) st) e
 
-  header : verdict ≡ Passed → headerVerdict (kindOf d) d (suc (length ds)) ≡ Passed
+  header : verdict ≡ Passed → headerVerdict (kindOf (target .chip) d) d (suc (length ds)) ≡ Passed
   unfolding headOf
-  header v = passed-header (kindOf d) (suc (length ds)) (headOf (kindOf d) (d ∷ ds)) st v
+  header v = passed-header (kindOf (target .chip) d) (suc (length ds)) (headOf (kindOf (target .chip) d) (d ∷ ds)) st v
 
-  stands : verdict ≡ Passed → Stands capacity b cs at c
+  stands : verdict ≡ Passed → Stands target b cs at c
+  unfolding stateOf
   stands v =
       let t = passes-in d ds at st v in
       let n = inside in
       record {
-        is = sym (ap (λ (l : List ℕ). commandAt (kindOf (getD l 0 0)) l at st) e);
+        is = sym (ap (λ (l : List ℕ). commandAt (kindOf (target .chip) (getD l 0 0)) l at st) e);
         faultless = verdict-is ∙ v;
         whole = omega arith;
-        known = known-kind (kindOf d) d (suc (length ds)) (header v);
+        known = known-kind (kindOf (target .chip) d) d (suc (length ds)) (header v);
+        gatewayState = kind-eight (target .chip) d;
       }
 
 -- n counts the dwords that the last command still has
-laid : (capacity : ℕ) (b l : List ℕ) (n at : ℕ) (cs : List Command) → drop at b ≡ l → at + n ≤ length b
-    → EndToEnd capacity b cs (at + n) (read capacity l n at cs .passed) (read capacity l n at cs .stop)
+laid : (target : Target) (b l : List ℕ) (n at : ℕ) (cs : List Command) → drop at b ≡ l → at + n ≤ length b
+    → EndToEnd target b cs (at + n) (read target l n at cs .passed) (read target l n at cs .stop)
 unfolding read
-laid capacity b [] n at cs e h =
+laid target b [] n at cs e h =
     let q : length b - at ≡ 0 = sym (length-drop at b) ∙ ap length e in
     let p : length b ≡ at + n = omega arith in
     let r : length b ≡ at = omega arith in
-    subst₂ (λ (x y : ℕ). EndToEnd capacity b cs x [] (stopped 2 y)) p r usedUp
-laid capacity b (d ∷ ds) (suc n) at cs e h =
+    subst₂ (λ (x y : ℕ). EndToEnd target b cs x [] (stopped 2 y)) p r usedUp
+laid target b (d ∷ ds) (suc n) at cs e h =
     let q : at + 1 + n ≡ at + suc n = omega arith in
-    subst (λ (a : ℕ). EndToEnd capacity b cs a (read capacity ds n (at + 1) cs .passed) (read capacity ds n (at + 1) cs .stop)) q
-    (laid capacity b ds n (at + 1) cs (sym (drop-drop 1 at b) ∙ ap (drop 1) e) (omega arith))
-laid capacity b (d ∷ ds) zero at cs e h =
-    let k = kindOf d in
-    let c = commandAt k (d ∷ ds) at (stateOf capacity cs) in
-    let n = inside capacity b cs at d ds e in
+    subst (λ (a : ℕ). EndToEnd target b cs a (read target ds n (at + 1) cs .passed) (read target ds n (at + 1) cs .stop)) q
+    (laid target b ds n (at + 1) cs (sym (drop-drop 1 at b) ∙ ap (drop 1) e) (omega arith))
+laid target b (d ∷ ds) zero at cs e h =
+    let k = kindOf (target .chip) d in
+    let c = commandAt k (d ∷ ds) at (stateOf target cs) in
+    let n = inside target b cs at d ds e in
     let z : at ≡ at + 0 = omega arith in
     let t = total-pos k d in
-    by-verdict (λ (r : Reading). EndToEnd capacity b cs (at + 0) (r .passed) (r .stop)) k (verdict capacity b cs at d ds e) _ _ _
-    (λ m s v. subst (λ (a : ℕ). EndToEnd capacity b cs a [] (stopped m (at + s))) z
-    (faulty (omega arith) (verdict-is capacity b cs at d ds e ∙ v)))
-    (λ v q. subst (λ (a : ℕ). EndToEnd capacity b cs a (c ∷ []) (ended (at + 1))) z (last (omega arith) (stands capacity b cs at d ds e v) q))
-    (λ v q. let r = read capacity ds (c .total - 1) (at + 1) (c ∷ cs) in
-    let s = stands capacity b cs at d ds e v in
+    by-verdict (λ (r : Reading). EndToEnd target b cs (at + 0) (r .passed) (r .stop)) k (verdict target b cs at d ds e) _ _ _
+    (λ m s v. subst (λ (a : ℕ). EndToEnd target b cs a [] (stopped m (at + s))) z
+    (faulty (omega arith) (verdict-is target b cs at d ds e ∙ v)))
+    (λ v q. subst (λ (a : ℕ). EndToEnd target b cs a (c ∷ []) (ended (at + 1))) z (last (omega arith) (stands target b cs at d ds e v) q))
+    (λ v q. let r = read target ds (c .total - 1) (at + 1) (c ∷ cs) in
+    let s = stands target b cs at d ds e v in
     let w = s .whole in
     let y : at + 1 + (c .total - 1) ≡ at + c .total = omega arith in
-    subst (λ (a : ℕ). EndToEnd capacity b cs a (c ∷ r .passed) (r .stop)) z
+    subst (λ (a : ℕ). EndToEnd target b cs a (c ∷ r .passed) (r .stop)) z
     (next (omega arith) s q
-    (subst (λ (a : ℕ). EndToEnd capacity b (c ∷ cs) a (r .passed) (r .stop)) y
-    (laid capacity b ds (c .total - 1) (at + 1) (c ∷ cs) (sym (drop-drop 1 at b) ∙ ap (drop 1) e) (omega arith)))))
+    (subst (λ (a : ℕ). EndToEnd target b (c ∷ cs) a (r .passed) (r .stop)) y
+    (laid target b ds (c .total - 1) (at + 1) (c ∷ cs) (sym (drop-drop 1 at b) ∙ ap (drop 1) e) (omega arith)))))
 
 -- LAW: the commands passed of any batch lie end to end up to where reading stopped
-pub reading-laid : (capacity : ℕ) (b : List ℕ) → EndToEnd capacity b [] 0 (readingOf capacity b .passed) (readingOf capacity b .stop)
+pub reading-laid : (target : Target) (b : List ℕ) → EndToEnd target b [] 0 (readingOf target b .passed) (readingOf target b .stop)
 unfolding readingOf
-reading-laid capacity b =
-    subst (λ (a : ℕ). EndToEnd capacity b [] a (read capacity b 0 0 [] .passed) (read capacity b 0 0 [] .stop)) (add-zero 0) (laid capacity b b 0 0 [] refl (omega arith))
+reading-laid target b =
+    subst (λ (a : ℕ). EndToEnd target b [] a (read target b 0 0 [] .passed) (read target b 0 0 [] .stop)) (add-zero 0) (laid target b b 0 0 [] refl (omega arith))
 
 -- A place of the batch, by the verdict on the command there.
-module _ (capacity : ℕ) (b : List ℕ) (cs : List Command) (at : ℕ) (p : at < length b) where
+module _ (target : Target) (b : List ℕ) (cs : List Command) (at : ℕ) (p : at < length b) where
   abbrev l : List ℕ
   l = drop at b
 
   abbrev k : ℕ
-  k = kindOf (getD l 0 0)
+  k = kindOf (target .chip) (getD l 0 0)
 
-  by-turn : (v : Verdict) → verdictIn capacity b cs at ≡ v → read capacity l 0 at cs ≡ then (turned v k l (stateOf capacity cs)) l at (stateOf capacity cs)
-  unfolding turnOf
+  by-turn : (v : Verdict) → verdictIn target b cs at ≡ v → read target l 0 at cs ≡ then (turned v k l (stateOf target cs)) l at (stateOf target cs)
+  unfolding turnOf stateOf
   by-turn v e =
-      let st = stateOf capacity cs in
-      read-walk capacity l 0 at cs ∙ turn-at b at st p ∙ ap (λ (x : Verdict). then (turned x k l st) l at st) e
+      let st = stateOf target cs in
+      read-walk target l 0 at cs ∙ turn-at b at st p ∙ ap (λ (x : Verdict). then (turned x k l st) l at st) e
 
-  module _ (c : Command) (s : Stands capacity b cs at c) where
+  module _ (c : Command) (s : Stands target b cs at c) where
     same-kind : k ≡ c .kind
     same-kind = ap (λ (x : Command). x .kind) (sym (s .is))
 
-    at-last : c .kind ≡ 2 → read capacity l 0 at cs ≡ reading (c ∷ []) (ended (at + 1))
+    at-last : c .kind ≡ 2 → read target l 0 at cs ≡ reading (c ∷ []) (ended (at + 1))
+    unfolding stateOf
     at-last q =
         by-turn Passed (s .faultless)
-        ∙ ap (λ (t : Bool). then (cond t Last (Next (totalOf k (getD l 0 0)) (stateAfter k (headOf k l) (stateOf capacity cs)))) l at (stateOf capacity cs))
+        ∙ ap (λ (t : Bool). then (cond t Last (Next (totalOf k (getD l 0 0)) (stateAfter k (headOf k l) (stateOf target cs)))) l at (stateOf target cs))
         (eq-eqb k 2 (same-kind ∙ q))
         ∙ ap (λ (x : Command). reading (x ∷ []) (ended (at + 1))) (sym (s .is))
 
-    at-next : (c .kind ≡ 2 → ⊥) → read capacity l 0 at cs ≡ andThen c (read capacity (drop (at + c .total) b) 0 (at + c .total) (c ∷ cs))
+    at-next : (c .kind ≡ 2 → ⊥) → read target l 0 at cs ≡ andThen c (read target (drop (at + c .total) b) 0 (at + c .total) (c ∷ cs))
+    unfolding stateOf
     at-next n =
-        let x = commandIn capacity b cs at in
+        let x = commandIn target b cs at in
         by-turn Passed (s .faultless)
-        ∙ ap (λ (t : Bool). then (cond t Last (Next (totalOf k (getD l 0 0)) (stateAfter k (headOf k l) (stateOf capacity cs)))) l at (stateOf capacity cs))
+        ∙ ap (λ (t : Bool). then (cond t Last (Next (totalOf k (getD l 0 0)) (stateAfter k (headOf k l) (stateOf target cs)))) l at (stateOf target cs))
         (ne-eqb k 2 (λ q. n (sym same-kind ∙ q)))
-        ∙ ap₂ (λ (y : List ℕ) (z : State). andThen x (walk y 0 (at + x .total) z)) (drop-drop (x .total) at b) (sym (state-after capacity x cs))
-        ∙ ap (andThen x) (sym (read-walk capacity (drop (at + x .total) b) 0 (at + x .total) (x ∷ cs)))
-        ∙ ap (λ (y : Command). andThen y (read capacity (drop (at + y .total) b) 0 (at + y .total) (y ∷ cs))) (sym (s .is))
+        ∙ ap₂ (λ (y : List ℕ) (z : State). andThen x (walk y 0 (at + x .total) z)) (drop-drop (x .total) at b) (sym (state-after target x cs))
+        ∙ ap (andThen x) (sym (read-walk target (drop (at + x .total) b) 0 (at + x .total) (x ∷ cs)))
+        ∙ ap (λ (y : Command). andThen y (read target (drop (at + y .total) b) 0 (at + y .total) (y ∷ cs))) (sym (s .is))
 
-only : (capacity : ℕ) (b : List ℕ) {cs : List Command} {at : ℕ} {xs : List Command} {stop : Stop} → EndToEnd capacity b cs at xs stop
-    → read capacity (drop at b) 0 at cs ≡ reading xs stop
-only capacity b (usedUp {cs}) = read-walk capacity (drop (length b) b) 0 (length b) cs ∙ walk-end b (length b) (stateOf capacity cs) (omega arith)
-only capacity b (faulty {cs} {at} {m} {s} p v) = by-turn capacity b cs at p (Fault m s) v
-only capacity b (last {cs} {at} {c} p s q) = at-last capacity b cs at p c s q
-only capacity b (next {cs} {at} {c} p s n r) = at-next capacity b cs at p c s n ∙ ap (andThen c) (only capacity b r)
+only : (target : Target) (b : List ℕ) {cs : List Command} {at : ℕ} {xs : List Command} {stop : Stop} → EndToEnd target b cs at xs stop
+    → read target (drop at b) 0 at cs ≡ reading xs stop
+only target b (usedUp {cs}) = read-walk target (drop (length b) b) 0 (length b) cs ∙ walk-end b (length b) (stateOf target cs) (omega arith)
+only target b (faulty {cs} {at} {m} {s} p v) = by-turn target b cs at p (Fault m s) v
+only target b (last {cs} {at} {c} p s q) = at-last target b cs at p c s q
+only target b (next {cs} {at} {c} p s n r) = at-next target b cs at p c s n ∙ ap (andThen c) (only target b r)
 
 -- LAW: no other commands do
-pub laid-reading : (capacity : ℕ) (b : List ℕ) (xs : List Command) (stop : Stop) → EndToEnd capacity b [] 0 xs stop → readingOf capacity b ≡ reading xs stop
+pub laid-reading : (target : Target) (b : List ℕ) (xs : List Command) (stop : Stop) → EndToEnd target b [] 0 xs stop → readingOf target b ≡ reading xs stop
 unfolding readingOf
-laid-reading capacity b xs stop r = only capacity b r
+laid-reading target b xs stop r = only target b r
 
 -- every command of the list is of a kind of the table
-each-known : (capacity : ℕ) (b : List ℕ) {cs : List Command} {at : ℕ} {xs : List Command} {stop : Stop} → EndToEnd capacity b cs at xs stop
-    → (i : ℕ) → i < length xs → commandNumber xs i .kind < 8
-each-known capacity b usedUp i h = absurd (omega arith)
-each-known capacity b (faulty p v) i h = absurd (omega arith)
-each-known capacity b (last p s q) zero h = s .known
-each-known capacity b (last p s q) (suc i) h = absurd (omega arith)
-each-known capacity b (next p s n r) zero h = s .known
-each-known capacity b (next p s n r) (suc i) h = each-known capacity b r i (omega arith)
+each-known : (target : Target) (b : List ℕ) {cs : List Command} {at : ℕ} {xs : List Command} {stop : Stop} → EndToEnd target b cs at xs stop
+    → (i : ℕ) → i < length xs → commandNumber xs i .kind < 9
+each-known target b usedUp i h = absurd (omega arith)
+each-known target b (faulty p v) i h = absurd (omega arith)
+each-known target b (last p s q) zero h = s .known
+each-known target b (last p s q) (suc i) h = absurd (omega arith)
+each-known target b (next p s n r) zero h = s .known
+each-known target b (next p s n r) (suc i) h = each-known target b r i (omega arith)
 
--- LAW: every command passed is of kind 0 to 7
-pub kinds-known : (capacity : ℕ) (b : List ℕ) (i : ℕ) → i < length (readingOf capacity b .passed) → commandNumber (readingOf capacity b .passed) i .kind < 8
-kinds-known capacity b = each-known capacity b (reading-laid capacity b)
+-- LAW: every command passed is of kind 0 to 8
+pub kinds-known : (target : Target) (b : List ℕ) (i : ℕ) → i < length (readingOf target b .passed) → commandNumber (readingOf target b .passed) i .kind < 9
+kinds-known target b = each-known target b (reading-laid target b)

@@ -8,6 +8,7 @@ use lib.Dec.{ltb}
 use lib.ListN.{length, getD, set, length-set, List·getD-eq-default}
 use lib.Seq.{getD-set-other}
 use borrow.Author.Tests.{ltb-true, ltb-false}
+use Rattle.chips.specs.declared.Target.{Target}
 use Rattle.laws.proofs.Choices.{by-test}
 use Rattle.words.specs.Dwords.{leAt, dwordsOf}
 use Rattle.words.proofs.Dwords.{length-dwords, getD-dwords}
@@ -28,9 +29,9 @@ inline-wide (c ∷ cs) zero i h k p q = inl (k, p, q)
 inline-wide (c ∷ cs) (suc m) i h k p q = inr (inline-wide cs m i (omega arith) k p q)
 
 -- LAW: the second is passed as the first is, and reading stops alike
-module _ (capacity : ℕ) (b b′ : List ℕ) (h : Alike capacity b b′) where
-  pub alike-reading : readingOf capacity b ≡ readingOf capacity b′
-  alike-reading = same-reading capacity b b′ (h .size) (λ i u. h .agree i (λ w. u (inl w)))
+module _ (target : Target) (b b′ : List ℕ) (h : Alike target b b′) where
+  pub alike-reading : readingOf target b ≡ readingOf target b′
+  alike-reading = same-reading target b b′ (h .size) (λ i u. h .agree i (λ w. u (inl w)))
 
 -- two lists of bytes of one length
 module _ (b b′ : List ℕ) (size : length b ≡ length b′) where
@@ -51,25 +52,25 @@ module _ (b b′ : List ℕ) (size : length b ≡ length b′) where
       four = simp (byte (4 * i) (omega arith), byte (4 * i + 1) (omega arith), byte (4 * i + 2) (omega arith), byte (4 * i + 3) (omega arith))
 
 -- over bytes: the whole dwords are alike
-module _ (capacity : ℕ) (b b′ : List ℕ) (h : BytesAlike capacity b b′) where
+module _ (target : Target) (b b′ : List ℕ) (h : BytesAlike target b b′) where
   pub bytes-count : length (dwordsOf b) ≡ length (dwordsOf b′)
   bytes-count = dwords-count b b′ (h .size)
 
-  dword : (i : ℕ) → (Inline (readingOf capacity (dwordsOf b) .passed) i → ⊥) → getD (dwordsOf b) i 0 ≡ getD (dwordsOf b′) i 0
-  dword i off = dword-same b b′ (h .size) i (λ k e. h .agree k (λ w. off (subst (Inline (readingOf capacity (dwordsOf b) .passed)) e w)))
+  dword : (i : ℕ) → (Inline (readingOf target (dwordsOf b) .passed) i → ⊥) → getD (dwordsOf b) i 0 ≡ getD (dwordsOf b′) i 0
+  dword i off = dword-same b b′ (h .size) i (λ k e. h .agree k (λ w. off (subst (Inline (readingOf target (dwordsOf b) .passed)) e w)))
 
-  pub bytes-alike : Alike capacity (dwordsOf b) (dwordsOf b′)
+  pub bytes-alike : Alike target (dwordsOf b) (dwordsOf b′)
   bytes-alike = record { size = bytes-count; agree = dword }
 
 -- LAW: any value in any inline dword of an OBJECT passed makes a batch alike, whatever stops the reading
-module _ (capacity : ℕ) (b : List ℕ) (cs : List Command) (stop : Stop) (laid : EndToEnd capacity b [] 0 cs stop) (m : ℕ) (h : m < length cs)
+module _ (target : Target) (b : List ℕ) (cs : List Command) (stop : Stop) (laid : EndToEnd target b [] 0 cs stop) (m : ℕ) (h : m < length cs)
     (k : commandNumber cs m .kind ≡ 7) (i : ℕ) (p : 6 ≤ i) (q : i < commandNumber cs m .total) (v : ℕ) where
   abbrev place : ℕ
   place = commandNumber cs m .place + i
 
-  pub inline-alike : Alike capacity b (set b place v)
+  pub inline-alike : Alike target b (set b place v)
   inline-alike =
-      let e = ap (λ (r : Reading). r .passed) (laid-reading capacity b cs stop laid) in
+      let e = ap (λ (r : Reading). r .passed) (laid-reading target b cs stop laid) in
       let w = inline-wide cs m place h k (omega arith) (omega arith) in
       record {
         size = sym (length-set b place v);
@@ -77,14 +78,14 @@ module _ (capacity : ℕ) (b : List ℕ) (cs : List Command) (stop : Stop) (laid
       }
 
 -- LAW: and any value in any of its four bytes, over bytes
-module _ (capacity : ℕ) (b : List ℕ) (cs : List Command) (stop : Stop) (laid : EndToEnd capacity (dwordsOf b) [] 0 cs stop) (m : ℕ) (h : m < length cs)
+module _ (target : Target) (b : List ℕ) (cs : List Command) (stop : Stop) (laid : EndToEnd target (dwordsOf b) [] 0 cs stop) (m : ℕ) (h : m < length cs)
     (k : commandNumber cs m .kind ≡ 7) (i : ℕ) (p : 6 ≤ i) (q : i < commandNumber cs m .total) (j : ℕ) (l : j < 4) (v : ℕ) where
   abbrev dwordAt : ℕ
   dwordAt = commandNumber cs m .place + i
 
-  pub inline-bytes-alike : BytesAlike capacity b (set b (4 * dwordAt + j) v)
+  pub inline-bytes-alike : BytesAlike target b (set b (4 * dwordAt + j) v)
   inline-bytes-alike =
-      let e = ap (λ (r : Reading). r .passed) (laid-reading capacity (dwordsOf b) cs stop laid) in
+      let e = ap (λ (r : Reading). r .passed) (laid-reading target (dwordsOf b) cs stop laid) in
       let w = inline-wide cs m dwordAt h k (omega arith) (omega arith) in
       record {
         size = sym (length-set b (4 * dwordAt + j) v);

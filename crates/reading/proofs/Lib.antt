@@ -12,3 +12,4 @@ pub mod Isolation
 pub mod AfterEnd
 pub mod Vfes
 pub mod Counts
+pub mod BothChips

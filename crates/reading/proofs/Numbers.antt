@@ -4,6 +4,7 @@ use Prim.Native.Nat.{ℕ, _≤_}
 use native.Mathlib.Omega.{arith}
 use mathlib.Core.List.{List}
 use lib.Dec.{T, leb, leb→le}
+use Rattle.chips.specs.declared.Target.{Target}
 use Rattle.laws.proofs.Tests.{both-left, both-right}
 use Rattle.command.specs.Order.{Command}
 use Rattle.judge.specs.declared.Verdict.{Verdict}
@@ -18,15 +19,15 @@ abbrev pub ReadNumber : Stop → Type 0
 ReadNumber (ended d) = Unit
 ReadNumber (stopped m p) = (2 ≤ m) × (m ≤ 9)
 
-numbers : (capacity : ℕ) (b : List ℕ) {cs : List Command} {at : ℕ} {xs : List Command} {stop : Stop} → EndToEnd capacity b cs at xs stop → ReadNumber stop
-numbers capacity b usedUp = (omega arith, omega arith)
-numbers capacity b (faulty {cs} {at} {m} {s} p v) =
+numbers : (target : Target) (b : List ℕ) {cs : List Command} {at : ℕ} {xs : List Command} {stop : Stop} → EndToEnd target b cs at xs stop → ReadNumber stop
+numbers target b usedUp = (omega arith, omega arith)
+numbers target b (faulty {cs} {at} {m} {s} p v) =
     let t = subst (λ (x : Verdict). T (inRange x)) v (fault-number _ _ _ _) in
     let l = leb→le 3 m (both-left (leb 3 m) (leb m 9) t) in
     (omega arith, leb→le m 9 (both-right (leb 3 m) (leb m 9) t))
-numbers capacity b (last p s q) = tt
-numbers capacity b (next p s n r) = numbers capacity b r
+numbers target b (last p s q) = tt
+numbers target b (next p s n r) = numbers target b r
 
 -- LAW
-pub read-number : (capacity : ℕ) (b : List ℕ) → ReadNumber (readingOf capacity b .stop)
-read-number capacity b = numbers capacity b (reading-laid capacity b)
+pub read-number : (target : Target) (b : List ℕ) → ReadNumber (readingOf target b .stop)
+read-number target b = numbers target b (reading-laid target b)

@@ -6,6 +6,7 @@ use native.Mathlib.Nat.{zero-add}
 use native.Mathlib.Omega.{arith}
 use mathlib.Core.List.{List, [], _∷_}
 use lib.ListN.{length, getD}
+use Rattle.chips.specs.declared.Target.{Target}
 use Rattle.command.specs.declared.State.{State}
 use Rattle.judge.specs.declared.Verdict.{Verdict}
 use Rattle.judge.specs.declared.Verdict.the-variants.{Passed}
@@ -38,7 +39,7 @@ unread-then c r i (inr d) = inr (inr d)
 
 -- the rest of a list that starts with the dword d, after its command
 abbrev rest : ℕ → List ℕ → ℕ → State → Reading
-rest d ds at st = walk ds (totalOf (kindOf d) d - 1) (at + 1) (stateAfter (kindOf d) (headOf (kindOf d) (d ∷ ds)) st)
+rest d ds at st = walk ds (totalOf (kindOf (st .chip) d) d - 1) (at + 1) (stateAfter (kindOf (st .chip) d) (headOf (kindOf (st .chip) d) (d ∷ ds)) st)
 
 -- nothing before what is left of the last command is unread
 unread-from : (l : List ℕ) (n at : ℕ) (st : State) (i : ℕ) → Unread (walk l n at st) i → at + n ≤ i
@@ -46,7 +47,7 @@ unfolding walk
 unread-from [] n at st i u = absurd (none-unread 2 at i u)
 unread-from (d ∷ ds) (suc n) at st i u = let z = unread-from ds n (at + 1) st i u in omega arith
 unread-from (d ∷ ds) zero at st i u =
-    let k = kindOf d in
+    let k = kindOf (st .chip) d in
     let c = commandAt k (d ∷ ds) at st in
     by-verdict (λ (r : Reading). Unread r i → at + 0 ≤ i) k (judgeOf k (suc (length ds)) (headOf k (d ∷ ds)) st) _ _ _
     (λ m s e w. absurd (none-unread m (at + s) i w))
@@ -58,10 +59,10 @@ unread-from (d ∷ ds) zero at st i u =
 -- a command's own dwords are read
 module _ (d : ℕ) (ds : List ℕ) (at : ℕ) (st : State) where
   abbrev k : ℕ
-  k = kindOf d
+  k = kindOf (st .chip) d
 
   abbrev c : Command
-  c = commandAt (kindOf d) (d ∷ ds) at st
+  c = commandAt (kindOf (st .chip) d) (d ∷ ds) at st
 
   own-inline : (j : ℕ) → j < ownDwords k → InlineData c (at + j) → ⊥
   own-inline j p u =
@@ -97,43 +98,43 @@ module _ (ds ds′ : List ℕ) (c : Command) (r r′ : Reading) (pos : 1 ≤ c .
 
 -- two lists that start with one command
 module _ (d : ℕ) (ds : List ℕ) (d′ : ℕ) (ds′ : List ℕ) (at : ℕ) (st : State) (e : length ds ≡ length ds′)
-    (h : (i : ℕ) → (Unread (afterVerdict (judgeOf (kindOf d) (suc (length ds)) (headOf (kindOf d) (d ∷ ds)) st) (commandAt (kindOf d) (d ∷ ds) at st) (rest d ds at st)) (at + i) → ⊥) → getD (d ∷ ds) i 0 ≡ getD (d′ ∷ ds′) i 0)
+    (h : (i : ℕ) → (Unread (afterVerdict (judgeOf (kindOf (st .chip) d) (suc (length ds)) (headOf (kindOf (st .chip) d) (d ∷ ds)) st) (commandAt (kindOf (st .chip) d) (d ∷ ds) at st) (rest d ds at st)) (at + i) → ⊥) → getD (d ∷ ds) i 0 ≡ getD (d′ ∷ ds′) i 0)
     (ih : (n a : ℕ) (s : State) → ((i : ℕ) → n ≤ i → (Unread (walk ds n a s) (a + i) → ⊥) → getD ds i 0 ≡ getD ds′ i 0) → walk ds n a s ≡ walk ds′ n a s) where
   abbrev verdict : Verdict
-  verdict = judgeOf (kindOf d) (suc (length ds)) (headOf (kindOf d) (d ∷ ds)) st
+  verdict = judgeOf (kindOf (st .chip) d) (suc (length ds)) (headOf (kindOf (st .chip) d) (d ∷ ds)) st
 
-  own-passed : verdict ≡ Passed → ownDwords (kindOf d) ≤ totalOf (kindOf d) d
+  own-passed : verdict ≡ Passed → ownDwords (kindOf (st .chip) d) ≤ totalOf (kindOf (st .chip) d) d
   unfolding headOf
-  own-passed p = own-in-total (kindOf d) d (suc (length ds)) (passed-header (kindOf d) (suc (length ds)) (headOf (kindOf d) (d ∷ ds)) st p)
+  own-passed p = own-in-total (kindOf (st .chip) d) d (suc (length ds)) (passed-header (kindOf (st .chip) d) (suc (length ds)) (headOf (kindOf (st .chip) d) (d ∷ ds)) st p)
 
-  agree : (j : ℕ) → j < ownDwords (kindOf d) → getD (d ∷ ds) j 0 ≡ getD (d′ ∷ ds′) j 0
+  agree : (j : ℕ) → j < ownDwords (kindOf (st .chip) d) → getD (d ∷ ds) j 0 ≡ getD (d′ ∷ ds′) j 0
   agree j p = h j (own-read d ds at st verdict own-passed j p)
 
   first : d ≡ d′
-  first = agree 0 (own-pos (kindOf d))
+  first = agree 0 (own-pos (kindOf (st .chip) d))
 
-  heads : headOf (kindOf d) (d ∷ ds) ≡ headOf (kindOf d) (d ∷ ds′)
-  heads = head-same (kindOf d) (d ∷ ds) (d′ ∷ ds′) agree ∙ ap (λ (x : ℕ). headOf (kindOf d) (x ∷ ds′)) (sym first)
+  heads : headOf (kindOf (st .chip) d) (d ∷ ds) ≡ headOf (kindOf (st .chip) d) (d ∷ ds′)
+  heads = head-same (kindOf (st .chip) d) (d ∷ ds) (d′ ∷ ds′) agree ∙ ap (λ (x : ℕ). headOf (kindOf (st .chip) d) (x ∷ ds′)) (sym first)
 
   -- the reading of a list that starts with x, by its own dwords and its rest
   abbrev by : ℕ → List ℕ → List ℕ → ℕ → Reading
   by x g l n =
-      afterVerdict (judgeOf (kindOf x) (suc n) g st) (commandOf (kindOf x) at (totalOf (kindOf x) x) g st)
-      (walk l (totalOf (kindOf x) x - 1) (at + 1) (stateAfter (kindOf x) g st))
+      afterVerdict (judgeOf (kindOf (st .chip) x) (suc n) g st) (commandOf (kindOf (st .chip) x) at (totalOf (kindOf (st .chip) x) x) g st)
+      (walk l (totalOf (kindOf (st .chip) x) x - 1) (at + 1) (stateAfter (kindOf (st .chip) x) g st))
 
-  rests : by d (headOf (kindOf d) (d ∷ ds)) ds (length ds) ≡ by d (headOf (kindOf d) (d ∷ ds)) ds′ (length ds)
+  rests : by d (headOf (kindOf (st .chip) d) (d ∷ ds)) ds (length ds) ≡ by d (headOf (kindOf (st .chip) d) (d ∷ ds)) ds′ (length ds)
   rests =
-      let g = headOf (kindOf d) (d ∷ ds) in
-      let s = stateAfter (kindOf d) g st in
-      let n = totalOf (kindOf d) d - 1 in
-      same-verdict ds ds′ (commandAt (kindOf d) (d ∷ ds) at st) (walk ds n (at + 1) s) (walk ds′ n (at + 1) s) (total-pos (kindOf d) d)
+      let g = headOf (kindOf (st .chip) d) (d ∷ ds) in
+      let s = stateAfter (kindOf (st .chip) d) g st in
+      let n = totalOf (kindOf (st .chip) d) d - 1 in
+      same-verdict ds ds′ (commandAt (kindOf (st .chip) d) (d ∷ ds) at st) (walk ds n (at + 1) s) (walk ds′ n (at + 1) s) (total-pos (kindOf (st .chip) d) d)
       (λ q. ih n (at + 1) s q) verdict (λ i p u. h (suc i) u)
 
-  same-here : by d (headOf (kindOf d) (d ∷ ds)) ds (length ds) ≡ by d′ (headOf (kindOf d′) (d′ ∷ ds′)) ds′ (length ds′)
+  same-here : by d (headOf (kindOf (st .chip) d) (d ∷ ds)) ds (length ds) ≡ by d′ (headOf (kindOf (st .chip) d′) (d′ ∷ ds′)) ds′ (length ds′)
   same-here =
       rests
       ∙ ap₂ (λ (g : List ℕ) (n : ℕ). by d g ds′ n) heads e
-      ∙ ap (λ (x : ℕ). by x (headOf (kindOf x) (x ∷ ds′)) ds′ (length ds′)) first
+      ∙ ap (λ (x : ℕ). by x (headOf (kindOf (st .chip) x) (x ∷ ds′)) ds′ (length ds′)) first
 
 -- the deciding induction
 same-walk : (l l′ : List ℕ) (n at : ℕ) (st : State) → length l ≡ length l′ →
@@ -149,17 +150,17 @@ same-walk (d ∷ ds) (d′ ∷ ds′) zero at st e h =
     same-here d ds d′ ds′ at st (omega arith) (λ i. h i (omega arith)) (λ n a s q. same-walk ds ds′ n a s (omega arith) q)
 
 -- Two batches of one length that agree on all but unread dwords of the first have one reading.
-pub same-reading : (capacity : ℕ) (b b′ : List ℕ) → length b ≡ length b′ →
-    ((i : ℕ) → (Unread (readingOf capacity b) i → ⊥) → getD b i 0 ≡ getD b′ i 0) → readingOf capacity b ≡ readingOf capacity b′
-same-reading capacity b b′ e h =
-    let st = stateOf capacity [] in
-    reading-walk capacity b
+pub same-reading : (target : Target) (b b′ : List ℕ) → length b ≡ length b′ →
+    ((i : ℕ) → (Unread (readingOf target b) i → ⊥) → getD b i 0 ≡ getD b′ i 0) → readingOf target b ≡ readingOf target b′
+same-reading target b b′ e h =
+    let st = stateOf target [] in
+    reading-walk target b
     ∙ same-walk b b′ 0 0 st e
-    (λ i p u. h i (λ w. u (subst (λ (r : Reading). Unread r (0 + i)) (reading-walk capacity b) (subst (Unread (readingOf capacity b)) (sym (zero-add i)) w))))
-    ∙ sym (reading-walk capacity b′)
+    (λ i p u. h i (λ w. u (subst (λ (r : Reading). Unread r (0 + i)) (reading-walk target b) (subst (Unread (readingOf target b)) (sym (zero-add i)) w))))
+    ∙ sym (reading-walk target b′)
 
 -- One decision goes by the length and the reading alone, if what is given back on acceptance does.
-pub same-decision : {A : Type 0} (refused : ℕ → ℕ → A) (accepted : Reading → ℕ → ℕ → A) (capacity room : ℕ) (b b′ : List ℕ) → length b ≡ length b′ → readingOf capacity b ≡ readingOf capacity b′
-    → decided refused (accepted (readingOf capacity b)) capacity room b ≡ decided refused (accepted (readingOf capacity b′)) capacity room b′
+pub same-decision : {A : Type 0} (refused : ℕ → ℕ → A) (accepted : Reading → ℕ → ℕ → A) (target : Target) (room : ℕ) (b b′ : List ℕ) → length b ≡ length b′ → readingOf target b ≡ readingOf target b′
+    → decided refused (accepted (readingOf target b)) target room b ≡ decided refused (accepted (readingOf target b′)) target room b′
 unfolding decided
-same-decision refused accepted capacity room b b′ e q = simp (e, q)
+same-decision refused accepted target room b b′ e q = simp (e, q)

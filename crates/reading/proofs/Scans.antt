@@ -8,6 +8,7 @@ use lib.ListN.{length, getD, drop, length-drop}
 use lib.Seq.{drop-cons, drop-drop}
 use lib.Dec.{eqb}
 use borrow.Author.Tests.{ne-eqb}
+use Rattle.chips.specs.declared.Target.{Target}
 use Rattle.command.specs.declared.State.{State}
 use Rattle.command.specs.Kinds.{kindOf, headOf}
 use Rattle.command.specs.Order.{objectCount, stateOf}
@@ -30,23 +31,23 @@ TurnBounds n k st (Refused m s) = Unit
 TurnBounds n k st Last = k ≡ 2
 TurnBounds n k st (Next t s) = (1 ≤ t) × (t ≤ n) × (s .commands ≡ st .commands + 1) × (s .objects ≡ cond (eqb k 7) (st .objects + 1) (st .objects))
 
-bounds : (d : ℕ) (ds : List ℕ) (st : State) → TurnBounds (suc (length ds)) (kindOf d) st (turnOf (d ∷ ds) st)
+bounds : (d : ℕ) (ds : List ℕ) (st : State) → TurnBounds (suc (length ds)) (kindOf (st .chip) d) st (turnOf (d ∷ ds) st)
 unfolding turnOf
 bounds d ds st =
-    let k = kindOf d in
+    let k = kindOf (st .chip) d in
     let h = headOf k (d ∷ ds) in
     by-verdict (TurnBounds (suc (length ds)) k st) k (judgeOf k (suc (length ds)) h st) _ _ _
     (λ m s e. tt) (λ e q. q) (λ e q. (total-pos k d, passes-in d ds 0 st e, after-commands k h st, after-objects k h st))
 
 -- the kind of the command at a place
-abbrev kindAt : List ℕ → ℕ → ℕ
-kindAt b at = kindOf (getD (drop at b) 0 0)
+abbrev kindAt : State → List ℕ → ℕ → ℕ
+kindAt st b at = kindOf (st .chip) (getD (drop at b) 0 0)
 
-bounds-at : (b : List ℕ) (at : ℕ) (st : State) → at < length b → TurnBounds (length b - at) (kindAt b at) st (turnOf (drop at b) st)
+bounds-at : (b : List ℕ) (at : ℕ) (st : State) → at < length b → TurnBounds (length b - at) (kindAt st b at) st (turnOf (drop at b) st)
 bounds-at b at st p =
     let n : suc (length (drop (suc at) b)) ≡ length b - at = ap suc (length-drop (suc at) b) ∙ (omega arith) in
-    subst (λ (l : List ℕ). TurnBounds (length b - at) (kindOf (getD l 0 0)) st (turnOf l st)) (sym (drop-cons b at 0 p))
-    (subst (λ (m : ℕ). TurnBounds m (kindOf (getD b at 0)) st (turnOf (getD b at 0 ∷ drop (suc at) b) st)) n (bounds (getD b at 0) (drop (suc at) b) st))
+    subst (λ (l : List ℕ). TurnBounds (length b - at) (kindOf (st .chip) (getD l 0 0)) st (turnOf l st)) (sym (drop-cons b at 0 p))
+    (subst (λ (m : ℕ). TurnBounds m (kindOf (st .chip) (getD b at 0)) st (turnOf (getD b at 0 ∷ drop (suc at) b) st)) n (bounds (getD b at 0) (drop (suc at) b) st))
 
 -- at most one more
 pub grown : (t : Bool) (n : ℕ) → cond t (n + 1) n ≤ n + 1
@@ -55,8 +56,8 @@ grown false n = omega arith
 
 -- L is the length as the code counted it
 module _ (b : List ℕ) (L : ℕ) (el : L ≡ length b) (at : ℕ) (st : State) (w : Turn) (t : ℕ) (s : State) (p : at < L) (ew : w ≡ turnOf (drop at b) st) (e : w ≡ Next t s) where
-  pub next-bounds : (1 ≤ t) × (t ≤ length b - at) × (s .commands ≡ st .commands + 1) × (s .objects ≡ cond (eqb (kindAt b at) 7) (st .objects + 1) (st .objects))
-  next-bounds = subst (TurnBounds (length b - at) (kindAt b at) st) (sym ew ∙ e) (bounds-at b at st (omega arith))
+  pub next-bounds : (1 ≤ t) × (t ≤ length b - at) × (s .commands ≡ st .commands + 1) × (s .objects ≡ cond (eqb (kindAt st b at) 7) (st .objects + 1) (st .objects))
+  next-bounds = subst (TurnBounds (length b - at) (kindAt st b at) st) (sym ew ∙ e) (bounds-at b at st (omega arith))
 
   pub next-less : length b - (at + t) < length b - at
   next-less = let z = next-bounds in omega arith
@@ -68,27 +69,27 @@ module _ (b : List ℕ) (L : ℕ) (el : L ≡ length b) (at : ℕ) (st : State) 
   next-commands q = let z = next-bounds in omega arith
 
   pub next-objects : st .objects ≤ at → s .objects ≤ at + t
-  next-objects q = let z = next-bounds in let g = grown (eqb (kindAt b at) 7) (st .objects) in omega arith
+  next-objects q = let z = next-bounds in let g = grown (eqb (kindAt st b at) 7) (st .objects) in omega arith
 
 pub ruleset next-laws = (next-less, next-in, next-commands, next-objects)
 
-pub scan-start : (capacity : ℕ) (b : List ℕ) (st : State) → st ≡ stateOf capacity [] → scannedAt st (walk b 0 0 st) ≡ scanOf capacity b
+pub scan-start : (target : Target) (b : List ℕ) (st : State) → st ≡ stateOf target [] → scannedAt st (walk b 0 0 st) ≡ scanOf target b
 unfolding scanOf stateOf objectCount
-scan-start capacity b st e =
+scan-start target b st e =
     ap (λ (s : State). scannedAt s (walk b 0 0 s)) e
-    ∙ ap (λ (r : Reading). scannedAfter 0 0 r) (sym (reading-walk capacity b))
-    ∙ (let cs = readingOf capacity b .passed in
+    ∙ ap (λ (r : Reading). scannedAfter 0 0 r) (sym (reading-walk target b))
+    ∙ (let cs = readingOf target b .passed in
     let z : 0 + length cs ≡ length cs = omega arith in
     let y : 0 + objectCount cs ≡ objectCount cs = omega arith in
-    ap₂ (λ (n o : ℕ). scanned n o (readingOf capacity b .stop)) z y)
+    ap₂ (λ (n o : ℕ). scanned n o (readingOf target b .stop)) z y)
 
-pub start-commands : (capacity : ℕ) (st : State) → st ≡ stateOf capacity [] → st .commands ≤ 0
+pub start-commands : (target : Target) (st : State) → st ≡ stateOf target [] → st .commands ≤ 0
 unfolding stateOf
-start-commands capacity st e = let z : st .commands ≡ 0 = ap (λ (s : State). s .commands) e in omega arith
+start-commands target st e = let z : st .commands ≡ 0 = ap (λ (s : State). s .commands) e in omega arith
 
-pub start-objects : (capacity : ℕ) (st : State) → st ≡ stateOf capacity [] → st .objects ≤ 0
+pub start-objects : (target : Target) (st : State) → st ≡ stateOf target [] → st .objects ≤ 0
 unfolding stateOf objectCount
-start-objects capacity st e = let z : st .objects ≡ 0 = ap (λ (s : State). s .objects) e in omega arith
+start-objects target st e = let z : st .objects ≡ 0 = ap (λ (s : State). s .objects) e in omega arith
 
 -- an object is counted before the rest, or with it
 counted : (t : Bool) (o n : ℕ) → cond t (o + 1) o + n ≡ o + cond t (n + 1) n
@@ -111,8 +112,8 @@ module _ (x : Scanned) (b : List ℕ) (L : ℕ) (el : L ≡ length b) (at : ℕ)
   pub scan-last : w ≡ Last → Ended (st .commands + 1) (at + 1) (st .objects) ≡ x
   unfolding objectCount
   scan-last e =
-      let k : kindAt b at ≡ 2 = subst (TurnBounds (length b - at) (kindAt b at) st) (sym ew ∙ e) (bounds-at b at st (omega arith)) in
-      ap (λ (o : ℕ). Ended (st .commands + 1) (at + 1) o) (sym (last-count (kindAt b at) (st .objects) k)) ∙ scan-turn Last e
+      let k : kindAt st b at ≡ 2 = subst (TurnBounds (length b - at) (kindAt st b at) st) (sym ew ∙ e) (bounds-at b at st (omega arith)) in
+      ap (λ (o : ℕ). Ended (st .commands + 1) (at + 1) o) (sym (last-count (kindAt st b at) (st .objects) k)) ∙ scan-turn Last e
 
   pub scan-next : (t : ℕ) (s : State) → w ≡ Next t s → scanFrom b (at + t) s ≡ x
   unfolding objectCount
@@ -120,15 +121,14 @@ module _ (x : Scanned) (b : List ℕ) (L : ℕ) (el : L ≡ length b) (at : ℕ)
       let z = next-bounds b L el at st w t s p ew e in
       let r = walk (drop (at + t) b) 0 (at + t) s in
       let c : s .commands + length (r .passed) ≡ st .commands + suc (length (r .passed)) = omega arith in
-      let o = ap (λ (n : ℕ). n + objectCount (r .passed)) (z .3) ∙ counted (eqb (kindAt b at) 7) (st .objects) (objectCount (r .passed)) in
+      let o = ap (λ (n : ℕ). n + objectCount (r .passed)) (z .3) ∙ counted (eqb (kindAt st b at) 7) (st .objects) (objectCount (r .passed)) in
       ap₂ (λ (m n : ℕ). scanned m n (r .stop)) c o
       ∙ ap (λ (l : List ℕ). scannedAt st (andThen (here (drop at b) at st) (walk l 0 (at + t) s))) (sym (drop-drop t at b))
       ∙ scan-turn (Next t s) e
 
-pub scan-end : (capacity : ℕ) (b : List ℕ) (L at : ℕ) (st : State) → L ≡ length b → L ≤ at →
-    scannedAt st (walk (drop at b) 0 at st) ≡ scanOf capacity b → Stopped 2 at ≡ scanOf capacity b
-scan-end capacity b L at st el q inv = sym (ap (scannedAt st) (walk-end b at st (omega arith))) ∙ inv
+pub scan-end : (b : List ℕ) (L at : ℕ) (st : State) (x y : Scanned) → L ≡ length b → L ≤ at → scanFrom b at st ≡ y → y ≡ x → Stopped 2 at ≡ x
+scan-end b L at st x y el q inv whole = sym (ap (scannedAt st) (walk-end b at st (omega arith))) ∙ inv ∙ whole
 
 pub ruleset start-laws = (start-commands, start-objects)
 
-pub ruleset scan-laws = (scan-start, scan-refused, scan-last, scan-next, scan-end)
+pub ruleset scan-laws = (scan-refused, scan-last, scan-next)

@@ -10,11 +10,13 @@ use lib.Seq.{drop-cons}
 use lib.Dec.{ltb, eqb}
 use borrow.Author.Tests.{ltb-false, eqb-true, not-true, lt-ltb, le-ltb}
 use Rattle.laws.proofs.Choices.{and-left, and-right}
+use Rattle.chips.specs.declared.Chip.{Chip}
 use Rattle.command.specs.declared.State.{State}
 use Rattle.judge.specs.declared.Verdict.{Verdict}
 use Rattle.judge.specs.declared.Verdict.the-variants.{Passed}
 use Rattle.command.specs.Kinds.{kindOf, totalOf, headOf, ownDwords}
 use Rattle.command.specs.Order.{stateAfter}
+use Rattle.command.proofs.Order.{after-chip}
 use Rattle.judge.specs.Refusals.{headerVerdict, ownVerdict, judgeOf, Vouches}
 use Rattle.judge.proofs.Judged.{passed-header, header-fits, own-fits-left, total-pos}
 use Rattle.reading.specs.declared.Scanned.{Scanned}
@@ -66,7 +68,7 @@ pub total-one : (k d t : ℕ) → t ≡ totalOf k d → 1 ≤ t
 total-one k d t e = let p = total-pos k d in omega arith
 
 -- one command more with the same first dword
-module _ (b : List ℕ) (L k d at t : ℕ) (r : Bool) (el : L ≡ length b) (hd : Header k d) (et : t ≡ totalOf k d) (er : r ≡ standsAt b at t d)
+module _ (b : List ℕ) (L k d at t : ℕ) (c : Chip) (r : Bool) (el : L ≡ length b) (hd : Header c k d) (et : t ≡ totalOf k d) (er : r ≡ standsAt b at t d)
     (y : r ≡ true) (q : at ≤ L) where
   there : headerVerdict k d (L - at) ≡ Passed
   there = let z = stands-fits b at t d r er y in header-fits k d (totalOf k d) (L - at) (hd .allowed) (omega arith)
@@ -78,10 +80,11 @@ module _ (b : List ℕ) (L k d at t : ℕ) (r : Bool) (el : L ≡ length b) (hd 
   own-again = let z = own-fits-left k d (L - at) there in omega arith
 
   -- the states before and after it, as the code has them
-  module _ (h : List ℕ) (v : Bool) (s s′ : State) (eh : h ≡ headOf k (drop at b)) (vouches : Vouches k h s v) (yes : v ≡ true) (es : s′ ≡ stateAfter k h s) where
+  module _ (h : List ℕ) (v : Bool) (s s′ : State) (eh : h ≡ headOf k (drop at b)) (vouches : Vouches k h s v) (yes : v ≡ true) (es : s′ ≡ stateAfter k h s)
+      (ec : s .chip ≡ c) where
     turns : turnOf (drop at b) s ≡ Next t s′
     turns =
-        sym (turn-next b L at d k s (headerVerdict k d (L - at)) el (stands-same b at t d r er y) (hd .kind) refl
+        sym (turn-next b L at d k s (headerVerdict k d (L - at)) el (stands-same b at t d r er y) (hd .kind ∙ ap (λ (x : Chip). kindOf x d) (sym ec)) refl
         h (ownVerdict k h s) eh refl there t s′ (vouches .passes yes) (hd .goes) et es)
 
     pub again-less : length b - (at + t) < length b - at
@@ -96,39 +99,46 @@ module _ (b : List ℕ) (L k d at t : ℕ) (r : Bool) (el : L ≡ length b) (hd 
     pub again-objects : s .objects ≤ at → s′ .objects ≤ at + t
     again-objects = next-objects b L el at s (turnOf (drop at b) s) t s′ inside refl turns
 
+    pub again-chip : s′ .chip ≡ c
+    again-chip = ap (λ (x : State). x .chip) es ∙ after-chip k h s ∙ ec
+
     pub again-scan : (x : Scanned) → scanFrom b at s ≡ x → scanFrom b (at + t) s′ ≡ x
     again-scan x inv = scan-next x b L el at s (turnOf (drop at b) s) inside inv refl t s′ turns
 
-pub ruleset again-laws = (again-less, again-in, again-commands, again-objects, again-scan)
+pub ruleset again-laws = (again-less, again-in, again-commands, again-objects, again-chip, again-scan)
 
 -- a turn that goes on is at a command whose first dword rows 3 and 4 let pass
-abbrev HeaderOf : ℕ → ℕ → Turn → Type 0
-HeaderOf k d (Refused m s) = Unit
-HeaderOf k d Last = Unit
-HeaderOf k d (Next t s) = Header k d
+abbrev HeaderOf : Chip → ℕ → ℕ → Turn → Type 0
+HeaderOf c k d (Refused m s) = Unit
+HeaderOf c k d Last = Unit
+HeaderOf c k d (Next t s) = Header c k d × (s .chip ≡ c)
 
-header-of : (d : ℕ) (ds : List ℕ) (st : State) → HeaderOf (kindOf d) d (turnOf (d ∷ ds) st)
+header-of : (d : ℕ) (ds : List ℕ) (st : State) → HeaderOf (st .chip) (kindOf (st .chip) d) d (turnOf (d ∷ ds) st)
 unfolding turnOf headOf
 header-of d ds st =
-    let k = kindOf d in
+    let k = kindOf (st .chip) d in
     let h = headOf k (d ∷ ds) in
-    by-verdict (HeaderOf k d) k (judgeOf k (suc (length ds)) h st) _ _ _ (λ m s e. tt) (λ e q. tt)
-    (λ e q. record { kind = refl; goes = q; allowed = header-fits k d (suc (length ds)) (totalOf k d) (passed-header k (suc (length ds)) h st e) (le-refl (totalOf k d)) })
+    by-verdict (HeaderOf (st .chip) k d) k (judgeOf k (suc (length ds)) h st) _ _ _ (λ m s e. tt) (λ e q. tt)
+    (λ e q. (
+      record { kind = refl; goes = q; allowed = header-fits k d (suc (length ds)) (totalOf k d) (passed-header k (suc (length ds)) h st e) (le-refl (totalOf k d)) },
+      after-chip k h st,
+    ))
 
-header-at : (b : List ℕ) (at : ℕ) (st : State) → at < length b → HeaderOf (kindOf (getD b at 0)) (getD b at 0) (turnOf (drop at b) st)
+header-at : (b : List ℕ) (at : ℕ) (st : State) → at < length b → HeaderOf (st .chip) (kindOf (st .chip) (getD b at 0)) (getD b at 0) (turnOf (drop at b) st)
 header-at b at st p =
-    subst (λ (l : List ℕ). HeaderOf (kindOf (getD b at 0)) (getD b at 0) (turnOf l st)) (sym (drop-cons b at 0 p)) (header-of (getD b at 0) (drop (suc at) b) st)
+    subst (λ (l : List ℕ). HeaderOf (st .chip) (kindOf (st .chip) (getD b at 0)) (getD b at 0) (turnOf l st)) (sym (drop-cons b at 0 p)) (header-of (getD b at 0) (drop (suc at) b) st)
 
 -- of a turn that goes on at a place, by its first dword d and the kind n = k that the code found
-pub turn-header : (b : List ℕ) (at : ℕ) (st : State) (t : ℕ) (s : State) (d k n : ℕ) → at < length b → d ≡ getD b at 0 → k ≡ kindOf d → k ≡ n
-    → turnOf (drop at b) st ≡ Next t s → Header n d
+pub turn-header : (b : List ℕ) (at : ℕ) (st : State) (t : ℕ) (s : State) (d k n : ℕ) → at < length b → d ≡ getD b at 0 → k ≡ kindOf (st .chip) d → k ≡ n
+    → turnOf (drop at b) st ≡ Next t s → Header (s .chip) n d
 turn-header b at st t s d k n p ed ek en e =
-    let h = subst (HeaderOf (kindOf (getD b at 0)) (getD b at 0)) e (header-at b at st p) in
-    subst (λ (x : ℕ). Header x d) (sym ek ∙ en) (subst (λ (x : ℕ). Header (kindOf x) x) (sym ed) h)
+    let h = subst (HeaderOf (st .chip) (kindOf (st .chip) (getD b at 0)) (getD b at 0)) e (header-at b at st p) in
+    let g : Header (st .chip) n d = subst (λ (x : ℕ). Header (st .chip) x d) (sym ek ∙ en) (subst (λ (x : ℕ). Header (st .chip) (kindOf (st .chip) x) x) (sym ed) (h .0)) in
+    subst (λ (c : Chip). Header c n d) (sym (h .1)) g
 
 -- w is the turn at a place, by the code; n the kind k of its first dword d, which it found
 module _ (b : List ℕ) (L at : ℕ) (st : State) (w : Turn) (el : L ≡ length b) (p : at < L) (i : Within b at st) (ew : w ≡ turnOf (drop at b) st) where
-  module _ (d k n : ℕ) (ed : d ≡ getD b at 0) (ek : k ≡ kindOf d) (en : k ≡ n) where
+  module _ (d k n : ℕ) (ed : d ≡ getD b at 0) (ek : k ≡ kindOf (st .chip) d) (en : k ≡ n) where
     ready-turn : (v : Turn) → w ≡ v → Ready b n d (stepOf at v)
     ready-turn (Refused m s) e = tt
     ready-turn Last e = tt
@@ -169,7 +179,7 @@ pub ruleset steps-laws = (steps-one, steps-onward)
 pub ready-within : (b : List ℕ) (k d : ℕ) (first : Step) (at : ℕ) (st : State) → Ready b k d first → first ≡ On at st → Within b at st
 ready-within b k d first at st h e = subst (Ready b k d) e h .0
 
-pub ready-header : (b : List ℕ) (k d : ℕ) (first : Step) (at : ℕ) (st : State) → Ready b k d first → first ≡ On at st → Header k d
+pub ready-header : (b : List ℕ) (k d : ℕ) (first : Step) (at : ℕ) (st : State) → Ready b k d first → first ≡ On at st → Header (st .chip) k d
 ready-header b k d first at st h e = subst (Ready b k d) e h .1
 
 pub onward-fault : (b : List ℕ) (first : Step) (m s : ℕ) → first ≡ Fault m s → Onward b first (Fault m s)
@@ -185,15 +195,16 @@ pub ruleset onward-laws = (onward-fault, onward-end, onward-on)
 
 -- what a step shows, by its case
 module _ (b : List ℕ) (at : ℕ) (st : State) (r : Step) (h : Steps b at st r) where
-  module _ (x : Scanned) (inv : scanFrom b at st ≡ x) where
+  -- y is what is left to find, and x what is found in all
+  module _ (x y : Scanned) (inv : scanFrom b at st ≡ y) (whole : y ≡ x) where
     pub found-fault : (m s : ℕ) → r ≡ Fault m s → Stopped m (at + s) ≡ x
-    found-fault m s e = ap (foundBy b at st) (sym e) ∙ h .0 ∙ inv
+    found-fault m s e = ap (foundBy b at st) (sym e) ∙ h .0 ∙ inv ∙ whole
 
     pub found-end : r ≡ End → Ended (st .commands + 1) (at + 1) (st .objects) ≡ x
-    found-end e = ap (foundBy b at st) (sym e) ∙ h .0 ∙ inv
+    found-end e = ap (foundBy b at st) (sym e) ∙ h .0 ∙ inv ∙ whole
 
     pub found-on : (to : ℕ) (s : State) → r ≡ On to s → scanFrom b to s ≡ x
-    found-on to s e = ap (foundBy b at st) (sym e) ∙ h .0 ∙ inv
+    found-on to s e = ap (foundBy b at st) (sym e) ∙ h .0 ∙ inv ∙ whole
 
   module _ (to : ℕ) (s : State) (e : r ≡ On to s) where
     goes : (at + 1 ≤ to) × Within b to s

@@ -20,7 +20,7 @@ use Rattle.reading.specs.declared.Turn.the-variants.{Refused, Last, Next
 use Rattle.reading.specs.Turns.{turned, turnOf}
 
 -- d and k are the first dword at a place and its kind, L the dwords of the batch, w the verdict on the header, as the code has them
-module _ (b : List ℕ) (L at d k : ℕ) (st : State) (w : Verdict) (el : L ≡ length b) (ed : d ≡ getD b at 0) (ek : k ≡ kindOf d) (ew : w ≡ headerVerdict k d (L - at)) where
+module _ (b : List ℕ) (L at d k : ℕ) (st : State) (w : Verdict) (el : L ≡ length b) (ed : d ≡ getD b at 0) (ek : k ≡ kindOf (st .chip) d) (ew : w ≡ headerVerdict k d (L - at)) where
   pub first : getD (drop at b) 0 0 ≡ d
   first = simp (getD-drop, add-zero) (sym ed)
 
@@ -30,7 +30,7 @@ module _ (b : List ℕ) (L at d k : ℕ) (st : State) (w : Verdict) (el : L ≡ 
   pub turn-is : turnOf (drop at b) st ≡ turned (judgeOf k (L - at) (headOf k (drop at b)) st) k (drop at b) st
   unfolding turnOf
   turn-is =
-      let e : kindOf (getD (drop at b) 0 0) ≡ k = ap kindOf first ∙ sym ek in
+      let e : kindOf (st .chip) (getD (drop at b) 0 0) ≡ k = ap (kindOf (st .chip)) first ∙ sym ek in
       ap (λ (x : ℕ). turned (judgeOf x (length (drop at b)) (headOf x (drop at b)) st) x (drop at b) st) e
       ∙ ap (λ (n : ℕ). turned (judgeOf k n (headOf k (drop at b)) st) k (drop at b) st) left
 

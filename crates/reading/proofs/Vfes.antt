@@ -1,6 +1,7 @@
 -- Every OBJECT passed has its VFE among the commands passed: "kinds 4, 5, 7 need an earlier VFE". Assumes nothing.
 use mathlib.Core.Path.{_≡_, refl, sym, ap, subst, _∙_}
 use mathlib.Core.Bool.{Bool, true, false, cond, _||_}
+use Rattle.chips.specs.declared.Target.{Target}
 use Rattle.laws.proofs.Choices.{not-both}
 use mathlib.Core.List.{List, [], _∷_}
 use Prim.Native.Nat.{ℕ, zero, suc, _+_, _-_, _<_}
@@ -51,21 +52,21 @@ in-force (c ∷ cs) ys n = go (eqb (c .kind) 3) refl n (in-force cs (c ∷ ys))
     go false p n ih = ih (simp p at n)
 
 -- one command of a reading, then the rest
-module _ (capacity d : ℕ) (ds : List ℕ) (at : ℕ) (cs : List Command) where
+module _ (target : Target) (d : ℕ) (ds : List ℕ) (at : ℕ) (cs : List Command) where
   abbrev st : State
-  st = stateOf capacity cs
+  st = stateOf target cs
 
   abbrev c : Command
-  c = commandAt (kindOf d) (d ∷ ds) at st
+  c = commandAt (kindOf (target .chip) d) (d ∷ ds) at st
 
   abbrev judged : Verdict
-  judged = judgeOf (kindOf d) (length (d ∷ ds)) (c .head) st
+  judged = judgeOf (kindOf (target .chip) d) (length (d ∷ ds)) (c .head) st
 
   named : judged ≡ Passed → (ys : List Command) → c .kind ≡ 7 → InForce (onto cs ys) (c .vfe)
   unfolding stateOf
   named e ys k =
       in-force cs ys
-      (passed-after-vfe capacity (length (d ∷ ds)) (c .head) cs (subst (λ (x : ℕ). judgeOf x (length (d ∷ ds)) (c .head) st ≡ Passed) k e))
+      (passed-after-vfe target (length (d ∷ ds)) (c .head) cs (subst (λ (x : ℕ). judgeOf x (length (d ∷ ds)) (c .head) st ≡ Passed) k e))
 
   abbrev Under : Reading → Type 0
   Under r = UnderVfe (onto cs (r .passed)) (r .passed)
@@ -75,15 +76,15 @@ module _ (capacity d : ℕ) (ds : List ℕ) (at : ℕ) (cs : List Command) where
       by-verdict Under (c .kind) judged _ _ _ (λ m s e. tt)
       (λ e p. (λ k. let z : _≡_ {A = ℕ} 7 2 = sym k ∙ p in absurd (omega arith), tt)) (λ e p. (named e (c ∷ rest .passed), u))
 
-under : (capacity : ℕ) (l : List ℕ) (n at : ℕ) (cs : List Command) → UnderVfe (onto cs (read capacity l n at cs .passed)) (read capacity l n at cs .passed)
+under : (target : Target) (l : List ℕ) (n at : ℕ) (cs : List Command) → UnderVfe (onto cs (read target l n at cs .passed)) (read target l n at cs .passed)
 unfolding read
-under capacity [] n at cs = tt
-under capacity (d ∷ ds) (suc n) at cs = under capacity ds n (at + 1) cs
-under capacity (d ∷ ds) zero at cs =
-    let c = commandAt (kindOf d) (d ∷ ds) at (stateOf capacity cs) in
-    under-verdict capacity d ds at cs (read capacity ds (c .total - 1) (at + 1) (c ∷ cs)) (under capacity ds (c .total - 1) (at + 1) (c ∷ cs))
+under target [] n at cs = tt
+under target (d ∷ ds) (suc n) at cs = under target ds n (at + 1) cs
+under target (d ∷ ds) zero at cs =
+    let c = commandAt (kindOf (target .chip) d) (d ∷ ds) at (stateOf target cs) in
+    under-verdict target d ds at cs (read target ds (c .total - 1) (at + 1) (c ∷ cs)) (under target ds (c .total - 1) (at + 1) (c ∷ cs))
 
 -- LAW: each OBJECT passed names a VFE passed
-pub under-vfe : (capacity : ℕ) (b : List ℕ) → UnderVfe (readingOf capacity b .passed) (readingOf capacity b .passed)
+pub under-vfe : (target : Target) (b : List ℕ) → UnderVfe (readingOf target b .passed) (readingOf target b .passed)
 unfolding readingOf
-under-vfe capacity b = under capacity b 0 0 []
+under-vfe target b = under target b 0 0 []

@@ -6,6 +6,7 @@ use native.Mathlib.Omega.{arith}
 use mathlib.Core.List.{List, [], _∷_}
 use lib.ListN.{length, getD, drop, drop-of-length-le}
 use lib.Seq.{drop-cons}
+use Rattle.chips.specs.declared.Target.{Target}
 use Rattle.command.specs.declared.State.{State}
 use Rattle.judge.specs.declared.Verdict.{Verdict}
 use Rattle.judge.specs.declared.Verdict.the-variants.{Passed}
@@ -20,20 +21,20 @@ use Rattle.reading.specs.Reading.{ended, stopped, Reading, reading, andT
 use Rattle.reading.specs.Turns.{turned, turnOf, here, walk}
 use Rattle.reading.proofs.Verdicts.{by-verdicts}
 
-pub read-walk : (capacity : ℕ) (l : List ℕ) (n at : ℕ) (cs : List Command) → read capacity l n at cs ≡ walk l n at (stateOf capacity cs)
-unfolding read walk
-read-walk capacity [] n at cs = refl
-read-walk capacity (d ∷ ds) (suc n) at cs = read-walk capacity ds n (at + 1) cs
-read-walk capacity (d ∷ ds) zero at cs =
-    let k = kindOf d in
-    let st = stateOf capacity cs in
+pub read-walk : (target : Target) (l : List ℕ) (n at : ℕ) (cs : List Command) → read target l n at cs ≡ walk l n at (stateOf target cs)
+unfolding read walk stateOf
+read-walk target [] n at cs = refl
+read-walk target (d ∷ ds) (suc n) at cs = read-walk target ds n (at + 1) cs
+read-walk target (d ∷ ds) zero at cs =
+    let k = kindOf (target .chip) d in
+    let st = stateOf target cs in
     let c = commandAt k (d ∷ ds) at st in
     ap (afterVerdict (judgeOf k (length (d ∷ ds)) (c .head) st) c)
-    (read-walk capacity ds (c .total - 1) (at + 1) (c ∷ cs) ∙ ap (walk ds (c .total - 1) (at + 1)) (state-after capacity c cs))
+    (read-walk target ds (c .total - 1) (at + 1) (c ∷ cs) ∙ ap (walk ds (c .total - 1) (at + 1)) (state-after target c cs))
 
-pub reading-walk : (capacity : ℕ) (b : List ℕ) → readingOf capacity b ≡ walk b 0 0 (stateOf capacity [])
+pub reading-walk : (target : Target) (b : List ℕ) → readingOf target b ≡ walk b 0 0 (stateOf target [])
 unfolding readingOf
-reading-walk capacity b = read-walk capacity b 0 0 []
+reading-walk target b = read-walk target b 0 0 []
 
 -- what is left of a command is passed over
 walk-skip : (l : List ℕ) (s at : ℕ) (st : State) → s ≤ length l → walk l s at st ≡ walk (drop s l) 0 (at + s) st
@@ -51,14 +52,14 @@ then (Next t next) l at st = andThen (here l at st) (walk (drop t l) 0 (at + t) 
 
 module _ (d : ℕ) (ds : List ℕ) (at : ℕ) (st : State) where
   abbrev t : ℕ
-  t = totalOf (kindOf d) d
+  t = totalOf (kindOf (st .chip) d) d
 
   abbrev next : State
-  next = stateAfter (kindOf d) (headOf (kindOf d) (d ∷ ds)) st
+  next = stateAfter (kindOf (st .chip) d) (headOf (kindOf (st .chip) d) (d ∷ ds)) st
 
   rest : t ≤ suc (length ds) → walk ds (t - 1) (at + 1) next ≡ walk (drop t (d ∷ ds)) 0 (at + t) next
   rest p =
-      let q = total-pos (kindOf d) d in
+      let q = total-pos (kindOf (st .chip) d) d in
       let e : t ≡ suc (t - 1) = omega arith in
       let f : at + 1 + (t - 1) ≡ at + t = omega arith in
       walk-skip ds (t - 1) (at + 1) next (omega arith)
@@ -66,19 +67,19 @@ module _ (d : ℕ) (ds : List ℕ) (at : ℕ) (st : State) where
       ∙ ap (λ (x : ℕ). walk (drop x (d ∷ ds)) 0 (at + t) next) (sym e)
 
   by-turn : (v : Verdict) → (v ≡ Passed → t ≤ suc (length ds)) →
-      afterVerdict v (here (d ∷ ds) at st) (walk ds (t - 1) (at + 1) next) ≡ then (turned v (kindOf d) (d ∷ ds) st) (d ∷ ds) at st
+      afterVerdict v (here (d ∷ ds) at st) (walk ds (t - 1) (at + 1) next) ≡ then (turned v (kindOf (st .chip) d) (d ∷ ds) st) (d ∷ ds) at st
   by-turn v p =
-      by-verdicts (λ (r : Reading) (w : Turn). r ≡ then w (d ∷ ds) at st) (kindOf d) v _ _ _ _ _ _
+      by-verdicts (λ (r : Reading) (w : Turn). r ≡ then w (d ∷ ds) at st) (kindOf (st .chip) d) v _ _ _ _ _ _
       (λ m s e. refl) (λ e q. refl) (λ e q. ap (andThen (here (d ∷ ds) at st)) (rest (p e)))
 
-  pub passes-in : judgeOf (kindOf d) (suc (length ds)) (headOf (kindOf d) (d ∷ ds)) st ≡ Passed → t ≤ suc (length ds)
+  pub passes-in : judgeOf (kindOf (st .chip) d) (suc (length ds)) (headOf (kindOf (st .chip) d) (d ∷ ds)) st ≡ Passed → t ≤ suc (length ds)
   unfolding headOf
-  passes-in e = passed-fits (kindOf d) d (suc (length ds)) (passed-header (kindOf d) (suc (length ds)) (headOf (kindOf d) (d ∷ ds)) st e)
+  passes-in e = passed-fits (kindOf (st .chip) d) d (suc (length ds)) (passed-header (kindOf (st .chip) d) (suc (length ds)) (headOf (kindOf (st .chip) d) (d ∷ ds)) st e)
 
   -- LAW: a batch is its first command, then the rest of the list
   pub walk-turn : walk (d ∷ ds) 0 at st ≡ then (turnOf (d ∷ ds) st) (d ∷ ds) at st
   unfolding walk turnOf
-  walk-turn = by-turn (judgeOf (kindOf d) (suc (length ds)) (headOf (kindOf d) (d ∷ ds)) st) passes-in
+  walk-turn = by-turn (judgeOf (kindOf (st .chip) d) (suc (length ds)) (headOf (kindOf (st .chip) d) (d ∷ ds)) st) passes-in
 
 -- the same at a place of a batch
 pub turn-at : (b : List ℕ) (at : ℕ) (st : State) → at < length b → walk (drop at b) 0 at st ≡ then (turnOf (drop at b) st) (drop at b) at st

@@ -4,6 +4,7 @@ use mathlib.Core.Bool.{cond}
 use mathlib.Core.List.{List}
 use lib.ListN.{length}
 use lib.Dec.{ltb, eqb}
+use Rattle.chips.specs.declared.Target.{Target}
 use Rattle.command.specs.Order.{objectCount}
 use Rattle.reading.specs.declared.Scanned.{Scanned}
 use Rattle.reading.specs.declared.Scanned.the-variants.{Stopped, Ended}
@@ -19,10 +20,10 @@ module _ {A : Type 0} (refused : ℕ → ℕ → A) (accepted : ℕ → ℕ → 
   atStop room commands (ended d) = cond (ltb room (16 * commands)) (refused 10 d) (accepted commands d)
 
   -- 1: "over 16,384 dwords (place 0)": the whole slice, before any command is read
-  unfoldable pub decided : ℕ → ℕ → List ℕ → A
-  decided capacity room b =
+  unfoldable pub decided : Target → ℕ → List ℕ → A
+  decided target room b =
       cond (ltb 16384 (length b)) (refused 1 0)
-      (atStop room (length (readingOf capacity b .passed)) (readingOf capacity b .stop))
+      (atStop room (length (readingOf target b .passed)) (readingOf target b .stop))
 
 -- 17, "byte entry only: batch, then run, not a multiple of 4 bytes; checked first (place: its whole dwords)": what the refusal means is the
 -- argument, as above.
@@ -38,9 +39,9 @@ abbrev pub scanned : ℕ → ℕ → Stop → Scanned
 scanned n o (ended d) = Ended n d o
 scanned n o (stopped m p) = Stopped m p
 
-unfoldable pub scanOf : ℕ → List ℕ → Scanned
-scanOf capacity b = let cs = readingOf capacity b .passed in scanned (length cs) (objectCount cs) (readingOf capacity b .stop)
+unfoldable pub scanOf : Target → List ℕ → Scanned
+scanOf target b = let cs = readingOf target b .passed in scanned (length cs) (objectCount cs) (readingOf target b .stop)
 
 -- the whole decision, with what an accepted batch has
-abbrev pub decisionOf : ℕ → ℕ → List ℕ → Scanned
-decisionOf capacity room b = decided Stopped (λ c d. Ended c d (objectCount (readingOf capacity b .passed))) capacity room b
+abbrev pub decisionOf : Target → ℕ → List ℕ → Scanned
+decisionOf target room b = decided Stopped (λ c d. Ended c d (objectCount (readingOf target b .passed))) target room b

@@ -4,4 +4,5 @@ pub mod Unread
 pub mod Isolation
 pub mod EndToEnd
 pub mod Vfes
+pub mod BothChips
 pub mod Turns

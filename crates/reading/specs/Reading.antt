@@ -5,6 +5,7 @@ use mathlib.Core.Bool.{cond}
 use mathlib.Core.List.{List, [], _∷_}
 use lib.ListN.{length, getD}
 use lib.Dec.{eqb}
+use Rattle.chips.specs.declared.Target.{Target}
 use Rattle.command.specs.declared.State.{State}
 use Rattle.judge.specs.declared.Verdict.{Verdict}
 use Rattle.judge.specs.declared.Verdict.the-variants.{Fault, Passed}
@@ -49,15 +50,15 @@ afterVerdict v c rest =
 
 -- The list that is left of a batch, which starts at a place, after the commands cs, the nearest first. n counts the dwords that the
 -- last command still has. 2: "slice used up before END (place: its length)".
-unfoldable pub read : ℕ → List ℕ → ℕ → ℕ → List Command → Reading
-read capacity [] n at cs = reading [] (stopped 2 at)
-read capacity (d ∷ ds) (suc n) at cs = read capacity ds n (at + 1) cs
-read capacity (d ∷ ds) zero at cs =
-    let k = kindOf d in
-    let st = stateOf capacity cs in
+unfoldable pub read : Target → List ℕ → ℕ → ℕ → List Command → Reading
+read target [] n at cs = reading [] (stopped 2 at)
+read target (d ∷ ds) (suc n) at cs = read target ds n (at + 1) cs
+read target (d ∷ ds) zero at cs =
+    let k = kindOf (target .chip) d in
+    let st = stateOf target cs in
     let c = commandAt k (d ∷ ds) at st in
-    afterVerdict (judgeOf k (length (d ∷ ds)) (c .head) st) c (read capacity ds (c .total - 1) (at + 1) (c ∷ cs))
+    afterVerdict (judgeOf k (length (d ∷ ds)) (c .head) st) c (read target ds (c .total - 1) (at + 1) (c ∷ cs))
 
--- the reading of a batch, given the capacity lent in rows
-unfoldable pub readingOf : ℕ → List ℕ → Reading
-readingOf capacity b = read capacity b 0 0 []
+-- the reading of a batch, for a chip and a capacity in rows
+unfoldable pub readingOf : Target → List ℕ → Reading
+readingOf target b = read target b 0 0 []

@@ -6,6 +6,7 @@ use mathlib.Core.Bool.{Bool, not, _&&_}
 use mathlib.Core.List.{List, [], _∷_}
 use lib.ListN.{length, getD, drop}
 use lib.Dec.{ltb, eqb}
+use Rattle.chips.specs.declared.Chip.{Chip}
 use Rattle.command.specs.declared.State.{State}
 use Rattle.judge.specs.declared.Verdict.{Verdict}
 use Rattle.judge.specs.declared.Verdict.the-variants.{Passed}
@@ -25,19 +26,19 @@ abbrev pub turned : Verdict → ℕ → List ℕ → State → Turn
 turned v k l st = byVerdict Refused Last (Next (totalOf k (getD l 0 0)) (stateAfter k (headOf k l) st)) k v
 
 unfoldable pub turnOf : List ℕ → State → Turn
-turnOf l st = let k = kindOf (getD l 0 0) in turned (judgeOf k (length l) (headOf k l) st) k l st
+turnOf l st = let k = kindOf (st .chip) (getD l 0 0) in turned (judgeOf k (length l) (headOf k l) st) k l st
 
 -- the command that a list starts with
 abbrev pub here : List ℕ → ℕ → State → Command
-here l at st = commandAt (kindOf (getD l 0 0)) l at st
+here l at st = commandAt (kindOf (st .chip) (getD l 0 0)) l at st
 
 -- A turn of the first pass is at a place of the batch b, which has len dwords; one command more does not overflow what is counted.
 abbrev pub TurnAt : List ℕ → ℕ → ℕ → State → Type 0
 TurnAt b len at st = (len ≡ length b) × (at < len) × (len < 2 ^ 32) × (st .commands + 1 < 2 ^ 32) × (st .objects + 1 < 2 ^ 32)
 
--- the command at a place starts with the dword d, and is of kind k
-abbrev pub StartsWith : List ℕ → ℕ → ℕ → ℕ → Type 0
-StartsWith b at k d = (d ≡ getD b at 0) × (k ≡ kindOf d)
+-- the command at a place starts with the dword d, and is of kind k in the chip's table
+abbrev pub StartsWith : Chip → List ℕ → ℕ → ℕ → ℕ → Type 0
+StartsWith c b at k d = (d ≡ getD b at 0) × (k ≡ kindOf c d)
 
 -- What is left of a pass: `read`, with what the commands before have set in place of their list. `read-walk` of proofs/Walk.antt shows that
 -- it is the reading.
@@ -45,7 +46,7 @@ unfoldable pub walk : List ℕ → ℕ → ℕ → State → Reading
 walk [] n at st = reading [] (stopped 2 at)
 walk (d ∷ ds) (suc n) at st = walk ds n (at + 1) st
 walk (d ∷ ds) zero at st =
-    let k = kindOf d in
+    let k = kindOf (st .chip) d in
     let c = commandAt k (d ∷ ds) at st in
     afterVerdict (judgeOf k (length (d ∷ ds)) (c .head) st) c (walk ds (c .total - 1) (at + 1) (stateAfter k (c .head) st))
 
@@ -87,8 +88,8 @@ abbrev pub Steps : List ℕ → ℕ → State → Step → Type 0
 Steps b at st r = (foundBy b at st r ≡ scanFrom b at st) × Beyond b (at + 1) r
 
 -- rows 3 and 4 let a command of kind k with first dword d pass, which is not END
-pub record Header (k d : ℕ) : Type 0 where
-  pub kind : k ≡ kindOf d
+pub record Header (c : Chip) (k d : ℕ) : Type 0 where
+  pub kind : k ≡ kindOf c d
   pub goes : k ≡ 2 → ⊥
   pub allowed : headerVerdict k d (totalOf k d) ≡ Passed
 
@@ -100,7 +101,7 @@ standsAt b at t d = not (ltb (length b - at) t) && eqb (getD b at 0) d
 abbrev pub Ready : List ℕ → ℕ → ℕ → Step → Type 0
 Ready b k d (Fault m s) = Unit
 Ready b k d End = Unit
-Ready b k d (On at st) = Within b at st × Header k d
+Ready b k d (On at st) = Within b at st × Header (st .chip) k d
 
 -- from a place on, the same is found from where the step r goes on
 abbrev pub Same : List ℕ → ℕ → State → Step → Type 0

@@ -5,6 +5,7 @@ ghost use lib.ListN.{length, drop};
 ghost use Rattle.words.specs.Dwords.{lent};
 ghost use Rattle.reading.specs.Decision.{scanOf, decisionOf};
 ghost use Rattle.reading.specs.Turns.{turnOf, TurnAt, StartsWith, stepOf, Within, Steps, Header, standsAt, Ready, Same, Onward};
+use chips::Target;
 use command::State;
 use command::head::kind;
 use command::head::own_dwords;
@@ -47,7 +48,7 @@ enum Step {
 
 // The command of kind k at a place, whose first dword is d: that dword, then only the dwords of its own.
 fn advance_as(dw: &[u32], by: &[u8], len: usize, at: usize, k: u32, d: u32, st: State) -> Turn
-    requires { ⌜ TurnAt (lent dw by) len at st × StartsWith (lent dw by) at k d ⌝ }
+    requires { ⌜ TurnAt (lent dw by) len at st × StartsWith (st .chip) (lent dw by) at k d ⌝ }
     ensures { λ r. ⌜ r ≡ turnOf (drop at (lent (dw .entry) (by .entry))) st ⌝ }
 {
     match header_verdict(k, d, len - at) {
@@ -99,7 +100,7 @@ fn repeated(dw: &[u32], by: &[u8], len: usize, at: usize, t: usize, d: u32) -> b
 // The commands from a place on that start with the same dword d, of kind k, as the one before, while they pass. Their total is known before
 // they are read, so that the next is not waited for.
 fn again(dw: &[u32], by: &[u8], len: usize, from: usize, k: u32, d: u32, st: State) -> Step
-    requires { ⌜ (len ≡ length (lent dw by)) × (len ≤ 16384) × Within (lent dw by) from st × Header k d ⌝ }
+    requires { ⌜ (len ≡ length (lent dw by)) × (len ≤ 16384) × Within (lent dw by) from st × Header (st .chip) k d ⌝ }
     ensures { λ r. ⌜ Same (lent (dw .entry) (by .entry)) from st r ⌝ }
 {
     let t = total(k, d) as usize;
@@ -128,13 +129,35 @@ fn and_again(dw: &[u32], by: &[u8], len: usize, k: u32, d: u32, first: Step) -> 
     }
 }
 
+// The command of kind k at a place, whose first dword is d, and those after it that start with the same dword, where k is rarely met.
+fn advance_other(dw: &[u32], by: &[u8], len: usize, at: usize, k: u32, d: u32, st: State) -> Step
+    requires { ⌜ (len ≡ length (lent dw by)) × (at < len) × (len ≤ 16384) × Within (lent dw by) at st
+        × StartsWith (st .chip) (lent dw by) at k d ⌝ }
+    ensures { λ r. ⌜ Steps (lent (dw .entry) (by .entry)) at st r ⌝ }
+{
+    if k == 4 {
+        let first = as_step(at, advance_as(dw, by, len, at, 4, d, st));
+        return and_again(dw, by, len, 4, d, first);
+    }
+    if k == 6 {
+        let first = as_step(at, advance_as(dw, by, len, at, 6, d, st));
+        return and_again(dw, by, len, 6, d, first);
+    }
+    if k == 8 {
+        let first = as_step(at, advance_as(dw, by, len, at, 8, d, st));
+        return and_again(dw, by, len, 8, d, first);
+    }
+    as_step(at, advance_as(dw, by, len, at, k, d, st))
+}
+
 // The command at a place, and those after it that start with the same dword. A kind that is a constant in the call gets code of its own.
 fn advance(dw: &[u32], by: &[u8], len: usize, at: usize, st: State) -> Step
     requires { ⌜ (len ≡ length (lent dw by)) × (at < len) × (len ≤ 16384) × Within (lent dw by) at st ⌝ }
     ensures { λ r. ⌜ Steps (lent (dw .entry) (by .entry)) at st r ⌝ }
 {
     let d = word(dw, by, at);
-    let k = kind(d);
+    let chip = st.chip;
+    let k = kind(chip, d);
     if k == 7 {
         let first = as_step(at, advance_as(dw, by, len, at, 7, d, st));
         return and_again(dw, by, len, 7, d, first);
@@ -156,25 +179,17 @@ fn advance(dw: &[u32], by: &[u8], len: usize, at: usize, st: State) -> Step
     if k == 1 {
         return as_step(at, advance_as(dw, by, len, at, 1, d, st));
     }
-    if k == 4 {
-        let first = as_step(at, advance_as(dw, by, len, at, 4, d, st));
-        return and_again(dw, by, len, 4, d, first);
-    }
-    if k == 6 {
-        let first = as_step(at, advance_as(dw, by, len, at, 6, d, st));
-        return and_again(dw, by, len, 6, d, first);
-    }
-    as_step(at, advance_as(dw, by, len, at, k, d, st))
+    advance_other(dw, by, len, at, k, d, st)
 }
 
 // The first pass.
-fn scan(dw: &[u32], by: &[u8], capacity: u32) -> Scanned
+fn scan(target: Target, dw: &[u32], by: &[u8]) -> Scanned
     requires { ⌜ length (lent dw by) ≤ 16384 ⌝ }
-    ensures { λ r. ⌜ r ≡ scanOf capacity (lent (dw .entry) (by .entry)) ⌝ }
+    ensures { λ r. ⌜ r ≡ scanOf target (lent (dw .entry) (by .entry)) ⌝ }
 {
     let len = held(dw, by);
     let mut at: usize = 0;
-    let mut st = start(capacity);
+    let mut st = start(target);
     while at < len {
         match advance(dw, by, len, at, st) {
             Step::Fault { number, skip } => {
@@ -204,8 +219,8 @@ fn scan(dw: &[u32], by: &[u8], capacity: u32) -> Scanned
 
 // The whole decision, before anything is written: 1 to 10, or the end of the batch with what it has. The record buffer has room for so many
 // words.
-pub fn decide(dw: &[u32], by: &[u8], capacity: u32, room: usize) -> Scanned
-    ensures { λ r. ⌜ r ≡ decisionOf capacity room (lent (dw .entry) (by .entry)) ⌝ }
+pub fn decide(target: Target, dw: &[u32], by: &[u8], room: usize) -> Scanned
+    ensures { λ r. ⌜ r ≡ decisionOf target room (lent (dw .entry) (by .entry)) ⌝ }
 {
     if 16384 < held(dw, by) {
         return Scanned::Stopped {
@@ -213,7 +228,7 @@ pub fn decide(dw: &[u32], by: &[u8], capacity: u32, room: usize) -> Scanned
             place: 0,
         };
     }
-    match scan(dw, by, capacity) {
+    match scan(target, dw, by) {
         Scanned::Stopped { number, place } => Scanned::Stopped { number, place },
         Scanned::Ended {
             commands,

@@ -41,7 +41,8 @@ objectFields c =
     ∷ c .object
     ∷ []
 
--- "CURBE: length, address. Descriptor load: count (length / 32), address. State flush: dword 1." The other kinds have none.
+-- "CURBE: length, address. Descriptor load: count (length / 32), address. State flush: dword 1." Of kind 8 document 02 says: "its record
+-- holds the dwords after its header". The other kinds have none.
 abbrev fieldsOf : Command → List ℕ
 fieldsOf c =
     cond (eqb (c .kind) 3) (vfeFields c)
@@ -49,7 +50,8 @@ fieldsOf c =
     (cond (eqb (c .kind) 5) (loadCount (c .head) ∷ loadAddress (c .head) ∷ [])
     (cond (eqb (c .kind) 6) (dword (c .head) 1 ∷ [])
     (cond (eqb (c .kind) 7) (objectFields c)
-    []))))
+    (cond (eqb (c .kind) 8) (dword (c .head) 1 ∷ [])
+    [])))))
 
 -- the first n words of a list, then zeros
 abbrev pub padded : ℕ → List ℕ → List ℕ

@@ -80,6 +80,7 @@ pub fn words(k: u32, h: [u32; 8], at: u32, total: u32, st: State) -> [u32; 16]
         4 => short(4, at, total, h[2] & 0x1_ffff, h[3]),
         5 => short(5, at, total, (h[2] & 0x1_ffff) / 32, h[3]),
         6 => short(6, at, total, h[1], 0),
+        8 => short(8, at, total, h[1], 0),
         _ => short(k, at, total, 0, 0),
     }
 }

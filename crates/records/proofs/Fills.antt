@@ -8,6 +8,7 @@ use lib.ListN.{length, getD, drop}
 use lib.Seq.{drop-drop}
 use lib.Dec.{ltb, eqb}
 use borrow.Author.Tests.{ltb-true, ltb-false, eq-eqb, ne-eqb}
+use Rattle.chips.specs.declared.Target.{Target}
 use Rattle.laws.proofs.Choices.{by-test}
 use Rattle.command.specs.declared.State.{State}
 use Rattle.judge.specs.declared.Verdict.{Verdict}
@@ -35,15 +36,15 @@ passed-turn (Fault m s) k l st h = absurd h
 passed-turn Passed k l st h = refl
 
 -- d, k, t and h are the first dword at a place, its kind, its total and its own dwords, as the code has them
-module _ (b : List ℕ) (at d k : ℕ) (st : State) (ed : d ≡ getD b at 0) (ek : k ≡ kindOf d) where
+module _ (b : List ℕ) (at d k : ℕ) (st : State) (ed : d ≡ getD b at 0) (ek : k ≡ kindOf (st .chip) d) where
   abbrev L : ℕ
   L = length b
 
   begins : getD (drop at b) 0 0 ≡ d
   begins = first b L at d k st (headerVerdict k d (L - at)) refl ed ek refl
 
-  kinds : kindOf (getD (drop at b) 0 0) ≡ k
-  kinds = ap kindOf begins ∙ sym ek
+  kinds : kindOf (st .chip) (getD (drop at b) 0 0) ≡ k
+  kinds = ap (kindOf (st .chip)) begins ∙ sym ek
 
   turns-as : turnOf (drop at b) st ≡ turned (judgeOf k (L - at) (headOf k (drop at b)) st) k (drop at b) st
   turns-as = turn-is b L at d k st (headerVerdict k d (L - at)) refl ed ek refl
@@ -127,7 +128,7 @@ module _ (b : List ℕ) (at : ℕ) (st : State) (n : ℕ) (l : Left b at st n) w
     bounds : (1 ≤ t) × (t ≤ length b - at) × (s .commands ≡ st .commands + 1) × (s .objects ≤ st .objects + 1)
     bounds =
         let z = next-bounds b (length b) refl at st (turnOf (drop at b) st) t s left-in refl e in
-        let g = grown (eqb (kindOf (getD (drop at b) 0 0)) 7) (st .objects) in (z .0, z .1, z .2, omega arith)
+        let g = grown (eqb (kindOf (st .chip) (getD (drop at b) 0 0)) 7) (st .objects) in (z .0, z .1, z .2, omega arith)
 
     goes : walk (drop at b) 0 at st ≡ andThen (here (drop at b) at st) (walk (drop (at + t) b) 0 (at + t) s)
     goes = walks (Next t s) e ∙ ap (λ (l : List ℕ). andThen (here (drop at b) at st) (walk l 0 (at + t) s)) (drop-drop t at b)
@@ -161,27 +162,27 @@ module _ (b : List ℕ) (at : ℕ) (st : State) (n : ℕ) (l : Left b at st n) w
         ap₂ (λ (n : ℕ) (x : Buffer). written putIn (walk (drop (at + t) b) 0 (at + t) s .passed) n x) q er
         ∙ ap (λ (x : Reading). written putIn (x .passed) (st .commands) r) (sym goes)
 
-module _ (capacity : ℕ) (b : List ℕ) (st : State) (e : st ≡ stateOf capacity []) where
-  starts : readingOf capacity b ≡ walk b 0 0 st
-  starts = reading-walk capacity b ∙ ap (walk b 0 0) (sym e)
+module _ (target : Target) (b : List ℕ) (st : State) (e : st ≡ stateOf target []) where
+  starts : readingOf target b ≡ walk b 0 0 st
+  starts = reading-walk target b ∙ ap (walk b 0 0) (sym e)
 
   none : st .commands ≡ 0
   unfolding stateOf
   none = ap (λ (s : State). s .commands) e
 
-  pub start-left : (n : ℕ) → Fits capacity b n → Left b 0 st n
+  pub start-left : (n : ℕ) → Fits target b n → Left b 0 st n
   start-left n f =
       let y = ap (λ (x : Reading). length (x .passed)) starts in
       let z = none in
       let r = f .2 in
       record {
         limit = f .0;
-        commands = start-commands capacity st e;
-        objects = start-objects capacity st e;
+        commands = start-commands target st e;
+        objects = start-objects target st e;
         whole = subst (λ (r : Reading). Whole (r .stop)) starts (f .1);
         fits = omega arith;
       }
 
-  pub start-records : (r : Buffer) → recordsFrom b 0 st r ≡ recorded putIn capacity b r
+  pub start-records : (r : Buffer) → recordsFrom b 0 st r ≡ recorded putIn target b r
   unfolding recordsFrom
   start-records r = ap₂ (λ (x : Reading) (n : ℕ). written putIn (x .passed) n r) (sym starts) none

@@ -5,9 +5,11 @@ use Prim.Native.Nat.{ℕ, _+_, _-_, _*_, _<_, _≤_}
 use native.Mathlib.Omega.{arith}
 use mathlib.Core.List.{List}
 use lib.ListN.{length, getD, drop}
+use Rattle.chips.specs.declared.Chip.{Chip}
 use Rattle.command.specs.declared.State.{State}
 use Rattle.command.specs.Kinds.{kindOf, lengthField, lengthAllowed, totalOf, headOf}
 use Rattle.command.specs.Order.{commandOf, stateAfter}
+use Rattle.command.proofs.Order.{after-chip}
 use Rattle.record.specs.Record.{recordOf}
 use Rattle.words.specs.Dwords.{dwordsIn, Buffer, putIn}
 use Rattle.words.proofs.Dwords.{in-length}
@@ -32,16 +34,20 @@ room-there b at st rd rb rd₀ rb₀ p q l = left-room b at st (length (dwordsIn
 pub left-small : (b : List ℕ) (at : ℕ) (st : State) (n : ℕ) → Left b at st n → at < 16384
 left-small b at st n l = let i = left-in b at st n l in let z = l .limit in omega arith
 
-pub left-length : (b : List ℕ) (at : ℕ) (st : State) (n : ℕ) → Left b at st n → (k d : ℕ) → d ≡ getD b at 0 → k ≡ kindOf d
+pub left-length : (b : List ℕ) (at : ℕ) (st : State) (n : ℕ) → Left b at st n → (k d : ℕ) → d ≡ getD b at 0 → k ≡ kindOf (st .chip) d
     → lengthAllowed k (lengthField d) ≡ true
 left-length b at st n l k d ed ek = length-passed b at d k st ed ek (left-passes b at st n l)
 
-pub allowed-length : (k d : ℕ) → Header k d → lengthAllowed k (lengthField d) ≡ true
-allowed-length k d h = passed-length k d (totalOf k d) (h .allowed)
+pub allowed-length : (c : Chip) (k d : ℕ) → Header c k d → lengthAllowed k (lengthField d) ≡ true
+allowed-length c k d h = passed-length k d (totalOf k d) (h .allowed)
+
+-- a header of one chip is one of a state with that chip
+pub same-header : (c c′ : Chip) (k d : ℕ) → c′ ≡ c → Header c k d → k ≡ kindOf c′ d
+same-header c c′ k d e h = h .kind ∙ ap (λ (x : Chip). kindOf x d) (sym e)
 
 -- The command at a place, of kind k with first dword d. t and h are its total and its own dwords, w its record, by the code, and r′ the
 -- record buffer with it.
-module _ (b : List ℕ) (at : ℕ) (st : State) (n : ℕ) (l : Left b at st n) (k d : ℕ) (ed : d ≡ getD b at 0) (ek : k ≡ kindOf d)
+module _ (b : List ℕ) (at : ℕ) (st : State) (n : ℕ) (l : Left b at st n) (k d : ℕ) (ed : d ≡ getD b at 0) (ek : k ≡ kindOf (st .chip) d)
     (t : ℕ) (h : List ℕ) (et : t ≡ totalOf k d) (eh : h ≡ headOf k (drop at b)) where
   here-recorded : (r r′ : Buffer) (w : List ℕ) → w ≡ recordOf (commandOf k at t h st) → r′ ≡ putWords putIn r (st .commands) w 16
       → r′ ≡ withRecord b at st r
@@ -66,8 +72,11 @@ module _ (b : List ℕ) (at : ℕ) (st : State) (n : ℕ) (l : Left b at st n) (
     pub then-left : Left b (at + t) s n
     then-left = left-next b at st n l t s turns
 
-    pub then-header : Header k d
+    pub then-header : Header (s .chip) k d
     then-header = turn-header b at st t s d k k (left-in b at st n l) ed ek refl turns
+
+    pub then-chip : s .chip ≡ st .chip
+    then-chip = ap (λ (x : State). x .chip) es ∙ after-chip k h st
 
     pub then-records : (r r′ : Buffer) (w : List ℕ) → w ≡ recordOf (commandOf k at t h st) → r′ ≡ putWords putIn r (st .commands) w 16
         → recordsFrom b (at + t) s r′ ≡ recordsFrom b at st r
@@ -94,7 +103,7 @@ pub ready-left : (b : List ℕ) (k d n : ℕ) (first : Place) (at : ℕ) (st : S
 unfolding Ready
 ready-left b k d n first at st h e = subst (Ready b k d n) e h .0
 
-pub ready-header : (b : List ℕ) (k d n : ℕ) (first : Place) (at : ℕ) (st : State) → Ready b k d n first → first ≡ From at st → Header k d
+pub ready-header : (b : List ℕ) (k d n : ℕ) (first : Place) (at : ℕ) (st : State) → Ready b k d n first → first ≡ From at st → Header (st .chip) k d
 unfolding Ready
 ready-header b k d n first at st h e = subst (Ready b k d n) e h .1
 

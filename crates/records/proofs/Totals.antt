@@ -27,8 +27,8 @@ pub kind-total : (k n d : ℕ) → 3 ≤ n → (n ≡ 7 → ⊥) → k ≡ n →
 kind-total k n d l m e a =
     sym (fixed-total k d (omega arith) (λ q. m (omega arith)) a ∙ ap (λ (x : ℕ). lengthOf x + 2) e)
 
-pub plain-total : (k d : ℕ) → (k ≡ 3 → ⊥) → (k ≡ 4 → ⊥) → (k ≡ 5 → ⊥) → (k ≡ 6 → ⊥) → (k ≡ 7 → ⊥) → lengthAllowed k (lengthField d) ≡ true → 1 ≡ totalOf k d
+pub plain-total : (k d : ℕ) → (k ≡ 3 → ⊥) → (k ≡ 4 → ⊥) → (k ≡ 5 → ⊥) → (k ≡ 6 → ⊥) → (k ≡ 7 → ⊥) → (k ≡ 8 → ⊥) → lengthAllowed k (lengthField d) ≡ true → 1 ≡ totalOf k d
 unfolding totalOf
-plain-total k d n3 n4 n5 n6 n7 a =
+plain-total k d n3 n4 n5 n6 n7 n8 a =
     by-test (ltb k 3) (λ t. simp t)
-    (λ t. absurd (not-both (lengthAllowed k (lengthField d)) a (sym (none-allowed k n3 n4 n5 n6 n7 (lengthField d) (ltb-false k 3 t)))))
+    (λ t. absurd (not-both (lengthAllowed k (lengthField d)) a (sym (none-allowed k n3 n4 n5 n6 n7 n8 (lengthField d) (ltb-false k 3 t)))))

@@ -2,6 +2,7 @@
 use Prim.Native.Nat.{ℕ, zero, suc, _+_, _*_, _≤_}
 use mathlib.Core.List.{List, [], _∷_}
 use lib.ListN.{length, getD}
+use Rattle.chips.specs.declared.Target.{Target}
 use Rattle.command.specs.Order.{Command}
 use Rattle.record.specs.Record.{recordOf}
 use Rattle.reading.specs.Reading.{Whole, readingOf}
@@ -22,9 +23,9 @@ module _ {B : Type 0} (put : B → ℕ → ℕ → B) where
   written (c ∷ cs) i r = written cs (i + 1) (putWords r i (recordOf c) 16)
 
 -- a batch within the limit, read to its END, with room for the records of its commands in so many words
-abbrev pub Fits : ℕ → List ℕ → ℕ → Type 0
-Fits capacity b room = (length b ≤ 16384) × Whole (readingOf capacity b .stop) × (16 * length (readingOf capacity b .passed) ≤ room)
+abbrev pub Fits : Target → List ℕ → ℕ → Type 0
+Fits target b room = (length b ≤ 16384) × Whole (readingOf target b .stop) × (16 * length (readingOf target b .passed) ≤ room)
 
 -- the record buffer with the records of the commands passed
-abbrev pub recorded : {B : Type 0} → (B → ℕ → ℕ → B) → ℕ → List ℕ → B → B
-recorded put capacity b r = written put (readingOf capacity b .passed) 0 r
+abbrev pub recorded : {B : Type 0} → (B → ℕ → ℕ → B) → Target → List ℕ → B → B
+recorded put target b r = written put (readingOf target b .passed) 0 r

@@ -50,7 +50,7 @@ GoesOn b low room (From at st) = (low ≤ at) × Left b at st room
 -- the next commands from there may be those of a header
 unfoldable pub Ready : List ℕ → ℕ → ℕ → ℕ → Place → Type 0
 Ready b k d room Done = Unit
-Ready b k d room (From at st) = Left b at st room × Header k d
+Ready b k d room (From at st) = Left b at st room × Header (st .chip) k d
 
 -- the place r is the place `first`, or one after it
 unfoldable pub Onward : List ℕ → ℕ → Place → Place → Type 0

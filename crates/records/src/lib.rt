@@ -8,6 +8,7 @@ ghost use Rattle.command.specs.Kinds.{lengthField, lengthAllowed, totalOf};
 ghost use Rattle.reading.specs.Turns.{StartsWith, Header};
 ghost use Rattle.records.specs.Records.{slot, putWords, Fits, recorded};
 ghost use Rattle.records.specs.Turns.{recordsFrom, Left, restOf, GoesOn, Ready, Onward};
+use chips::Target;
 use command::State;
 use command::head::kind;
 use command::head::own_dwords;
@@ -56,6 +57,7 @@ fn passed_total(k: u32, d: u32) -> u32
         4 => 4,
         5 => 4,
         6 => 2,
+        8 => 2,
         _ => 1,
     }
 }
@@ -71,7 +73,7 @@ fn record_as(
     rd: &mut [u32],
     rb: &mut [u8],
 ) -> Place
-    requires { ⌜ Left (lent dw by) at st (length (lent rd rb)) × StartsWith (lent dw by) at k d ⌝ }
+    requires { ⌜ Left (lent dw by) at st (length (lent rd rb)) × StartsWith (st .chip) (lent dw by) at k d ⌝ }
     ensures { λ r. ⌜ (restOf (lent (dw .entry) (by .entry)) r (lentBuffer (rd .exit) (rb .exit))
         ≡ recordsFrom (lent (dw .entry) (by .entry)) at st (lentBuffer (rd .entry) (rb .entry)))
         × GoesOn (lent (dw .entry) (by .entry)) (at + 1) (length (lent (rd .entry) (rb .entry))) r
@@ -100,7 +102,7 @@ fn again(
     rd: &mut [u32],
     rb: &mut [u8],
 ) -> Place
-    requires { ⌜ Left (lent dw by) from st (length (lent rd rb)) × Header k d ⌝ }
+    requires { ⌜ Left (lent dw by) from st (length (lent rd rb)) × Header (st .chip) k d ⌝ }
     ensures { λ r. ⌜ (restOf (lent (dw .entry) (by .entry)) r (lentBuffer (rd .exit) (rb .exit))
         ≡ recordsFrom (lent (dw .entry) (by .entry)) from st (lentBuffer (rd .entry) (rb .entry)))
         × GoesOn (lent (dw .entry) (by .entry)) from (length (lent (rd .entry) (rb .entry))) r ⌝ }
@@ -138,7 +140,44 @@ fn and_again(
     }
 }
 
-// Writes the record of the command at a place, and of those after it that start with the same dword, where these are OBJECTs or no-ops.
+// Writes the record of the command of kind k at a place, whose first dword is d, and of those after it that start with the same dword, where
+// k is rarely met.
+fn record_other(
+    dw: &[u32],
+    by: &[u8],
+    at: usize,
+    k: u32,
+    d: u32,
+    st: State,
+    rd: &mut [u32],
+    rb: &mut [u8],
+) -> Place
+    requires { ⌜ Left (lent dw by) at st (length (lent rd rb)) × StartsWith (st .chip) (lent dw by) at k d ⌝ }
+    ensures { λ r. ⌜ (restOf (lent (dw .entry) (by .entry)) r (lentBuffer (rd .exit) (rb .exit))
+        ≡ recordsFrom (lent (dw .entry) (by .entry)) at st (lentBuffer (rd .entry) (rb .entry)))
+        × GoesOn (lent (dw .entry) (by .entry)) (at + 1) (length (lent (rd .entry) (rb .entry))) r ⌝ }
+{
+    if k == 5 {
+        let first = record_as(dw, by, at, 5, d, st, rd, rb);
+        return and_again(dw, by, 5, d, first, rd, rb);
+    }
+    if k == 4 {
+        let first = record_as(dw, by, at, 4, d, st, rd, rb);
+        return and_again(dw, by, 4, d, first, rd, rb);
+    }
+    if k == 6 {
+        let first = record_as(dw, by, at, 6, d, st, rd, rb);
+        return and_again(dw, by, 6, d, first, rd, rb);
+    }
+    if k == 8 {
+        let first = record_as(dw, by, at, 8, d, st, rd, rb);
+        return and_again(dw, by, 8, d, first, rd, rb);
+    }
+    record_as(dw, by, at, k, d, st, rd, rb)
+}
+
+// Writes the record of the command at a place, and of those after it that start with the same dword. A kind that is a constant in the call
+// gets code of its own.
 fn record_at(dw: &[u32], by: &[u8], at: usize, st: State, rd: &mut [u32], rb: &mut [u8]) -> Place
     requires { ⌜ Left (lent dw by) at st (length (lent rd rb)) ⌝ }
     ensures { λ r. ⌜ (restOf (lent (dw .entry) (by .entry)) r (lentBuffer (rd .exit) (rb .exit))
@@ -146,7 +185,8 @@ fn record_at(dw: &[u32], by: &[u8], at: usize, st: State, rd: &mut [u32], rb: &m
         × GoesOn (lent (dw .entry) (by .entry)) (at + 1) (length (lent (rd .entry) (rb .entry))) r ⌝ }
 {
     let d = word(dw, by, at);
-    let k = kind(d);
+    let chip = st.chip;
+    let k = kind(chip, d);
     if k == 7 {
         let first = record_as(dw, by, at, 7, d, st, rd, rb);
         return and_again(dw, by, 7, d, first, rd, rb);
@@ -158,27 +198,18 @@ fn record_at(dw: &[u32], by: &[u8], at: usize, st: State, rd: &mut [u32], rb: &m
     if k == 3 {
         return record_as(dw, by, at, 3, d, st, rd, rb);
     }
-    if k == 5 {
-        return record_as(dw, by, at, 5, d, st, rd, rb);
-    }
-    if k == 4 {
-        return record_as(dw, by, at, 4, d, st, rd, rb);
-    }
-    if k == 6 {
-        return record_as(dw, by, at, 6, d, st, rd, rb);
-    }
-    record_as(dw, by, at, k, d, st, rd, rb)
+    record_other(dw, by, at, k, d, st, rd, rb)
 }
 
 // The second pass: the record of each command of a batch that passed.
-pub fn fill(dw: &[u32], by: &[u8], capacity: u32, rd: &mut [u32], rb: &mut [u8])
-    requires { ⌜ Fits capacity (lent dw by) (length (lent rd rb)) ⌝ }
+pub fn fill(target: Target, dw: &[u32], by: &[u8], rd: &mut [u32], rb: &mut [u8])
+    requires { ⌜ Fits target (lent dw by) (length (lent rd rb)) ⌝ }
     ensures { λ _. ⌜ lentBuffer (rd .exit) (rb .exit)
-        ≡ recorded putIn capacity (lent (dw .entry) (by .entry)) (lentBuffer (rd .entry) (rb .entry)) ⌝ }
+        ≡ recorded putIn target (lent (dw .entry) (by .entry)) (lentBuffer (rd .entry) (rb .entry)) ⌝ }
 {
     let len = held(dw, by);
     let mut at: usize = 0;
-    let mut st = start(capacity);
+    let mut st = start(target);
     while at < len {
         match record_at(dw, by, at, st, rd, rb) {
             Place::Done => {

@@ -8,6 +8,9 @@ use lib.Dec.{eqb}
 use borrow.Author.Tests.{eqb-true, eqb-false}
 use lib.ListN.{length, getD, take, set}
 use Rattle.laws.proofs.Choices.{by-cond, by-test}
+use Rattle.chips.specs.declared.Target.{Target}
+use Rattle.chips.specs.Chips as chips
+use Rattle.chips.proofs.Chips.{on-none, on-named}
 use Rattle.words.specs.Dwords.{dwordsOf, putLe}
 use Rattle.command.specs.Order.{Command}
 use Rattle.records.specs.Records.{recorded}
@@ -23,8 +26,9 @@ use Rattle.runs.proofs.Waits.{object-eight}
 use Rattle.runs.proofs.Named.{bad-number, unknown, not-waiting, not-running, names-start, stalls, blocks, no-object, no-delta}
 use Rattle.runs.proofs.Runs.{ran-started, ran-unnamed}
 use Rattle.runs.proofs.Stops.{Stops, stops, ran-past, ran-long}
-use Rattle.scoreboard.specs.Answers.{objectsIn, ranAnswer, Result, refusedResult, orderOf, bytesOrderOf}
-use Rattle.scoreboard.specs.Claims.{TurnedAway, Began, LeadsTo, Claims, Claimed, BytesClaimed, AllClaimed}
+use Rattle.reading.specs.Decision.{decisionOf}
+use Rattle.scoreboard.specs.Answers.{objectsIn, ranAnswer, Result, refusedResult, orderFor, bytesOrderFor, orderOf, bytesOrderOf}
+use Rattle.scoreboard.specs.Claims.{TurnedAway, Began, LeadsTo, Claims, bytesDecision, Claimed, BytesClaimed, AllClaimed}
 use Rattle.scoreboard.proofs.ByOrder.{by-order, by-bytes-order}
 
 -- every delta in play of an object of a batch is one of the eight
@@ -42,13 +46,13 @@ objects-eight all (c ∷ cs) =
     by-cond Eight (eqb (c .kind) 7) _ (objectsOf all cs)
     (λ _. eight-cons (objectOf (c .head) (commandNumber all (c .vfe) .head)) (objectsOf all cs) (object-eight _ _ _ _ _ _ _ _) (objects-eight all cs)) (λ _. objects-eight all cs)
 
-module _ (capacity : ℕ) (batch run records states filled : List ℕ) where
+module _ (target : Target) (batch run records states filled : List ℕ) where
   abbrev Of : Scanned → Result (List ℕ) → Type 0
-  Of decision g = Claims capacity batch run records states filled decision g
+  Of decision g = Claims target batch run records states filled decision g
 
   -- a refusal
   claims-refused : (decision : Scanned) (m p : ℕ) → 0 < m → m < 21
-      → LeadsTo capacity batch run records states filled decision (refusedResult records states m p) decision → TurnedAway m ⊎ (m ≡ 20) → (m ≡ 20 → (length states < length (objectsIn capacity batch)) × (p ≡ 0))
+      → LeadsTo target batch run records states filled decision (refusedResult records states m p) decision → TurnedAway m ⊎ (m ≡ 20) → (m ≡ 20 → (length states < length (objectsIn target batch)) × (p ≡ 0))
       → Of decision (refusedResult records states m p)
   claims-refused decision m p l h leads which few =
       record {
@@ -76,7 +80,7 @@ module _ (capacity : ℕ) (batch run records states filled : List ℕ) where
         long = refl;
       }
     where
-      no : Began capacity batch run records states filled decision (refusedResult records states m p) → ⊥
+      no : Began target batch run records states filled decision (refusedResult records states m p) → ⊥
       no (inl z) = omega arith
       no (inr z) = omega arith
 
@@ -84,13 +88,13 @@ module _ (capacity : ℕ) (batch run records states filled : List ℕ) where
   claims-batch m p (inl t) = let l = t .0 in let h = t .1 in claims-refused (Stopped m p) m p (omega arith) (omega arith) (refl, inl t) (inl (inl t)) (λ z. absurd (omega arith))
   claims-batch m p (inr e) = claims-refused (Stopped m p) m p (omega arith) (omega arith) (refl, inr e) (inl (inr e)) (λ z. absurd (omega arith))
 
-  claims-short : (c d o : ℕ) → length states < length (objectsIn capacity batch) → Of (Ended c d o) (refusedResult records states 20 0)
+  claims-short : (c d o : ℕ) → length states < length (objectsIn target batch) → Of (Ended c d o) (refusedResult records states 20 0)
   claims-short c d o q = claims-refused (Ended c d o) 20 0 (omega arith) (omega arith) (inl refl) (inr refl) (λ _. (q, refl))
 
   -- a run
-  module _ (room : length (objectsIn capacity batch) ≤ length states) where
+  module _ (room : length (objectsIn target batch) ≤ length states) where
     abbrev objects : List Object
-    objects = objectsIn capacity batch
+    objects = objectsIn target batch
 
     abbrev r : Ran
     r = ran objects run states
@@ -126,7 +130,7 @@ module _ (capacity : ℕ) (batch run records states filled : List ℕ) where
 
       named-25 : r .verdict .number ≡ 25 → Blocks objects before (event / 2) (r .verdict .object) (r .verdict .delta)
       named-25 z =
-          let cs = readingOf capacity batch .passed in
+          let cs = readingOf target batch .passed in
           subst⁻¹ (λ (v : Verdict). Blocks objects before (event / 2) (v .object) (v .delta)) (bad-event .1)
           (blocks objects before event (objects-eight cs cs (event / 2)) (number-is ∙ z))
 
@@ -177,23 +181,46 @@ module _ (capacity : ℕ) (batch run records states filled : List ℕ) where
           long = ran-long objects run states room;
         }
 
-module _ (capacity : ℕ) (batch run records states : List ℕ) where
-  -- LAW: the dword entry
-  pub claimed : Claimed capacity batch run records states
-  unfolding orderOf
-  claimed =
-      let f = recorded set capacity batch records in
-      by-order set capacity (length records) batch run records states (Of capacity batch run records states f) (claims-batch capacity batch run records states f)
-      (claims-short capacity batch run records states f) (λ c d o room. claims-ran capacity batch run records states f room c d o)
+-- for a known chip
+module _ (target : Target) (batch run records states : List ℕ) where
+  claimed-for : Claims target batch run records states (recorded set target batch records) (decisionOf target (length records) batch) (orderFor target batch run records states)
+  unfolding orderFor
+  claimed-for =
+      let f = recorded set target batch records in
+      by-order set target (length records) batch run records states (Of target batch run records states f) (claims-batch target batch run records states f)
+      (claims-short target batch run records states f) (λ c d o room. claims-ran target batch run records states f room c d o)
 
-  -- LAW: the byte entry
-  pub bytes-claimed : BytesClaimed capacity batch run records states
-  bytes-claimed =
+  bytes-claimed-for : Claims target (dwordsOf batch) (dwordsOf run) records states (recorded putLe target (dwordsOf batch) records)
+      (bytesDecision target batch run records) (bytesOrderFor target batch run records states)
+  bytes-claimed-for =
       let b = dwordsOf batch in
       let e = dwordsOf run in
-      let f = recorded putLe capacity b records in
-      by-bytes-order capacity batch run records states (Of capacity b e records states f) (claims-batch capacity b e records states f)
-      (claims-short capacity b e records states f) (λ c d o room. claims-ran capacity b e records states f room c d o)
+      let f = recorded putLe target b records in
+      by-bytes-order target batch run records states (Of target b e records states f) (claims-batch target b e records states f)
+      (claims-short target b e records states f) (λ c d o room. claims-ran target b e records states f room c d o)
+
+module _ (chip capacity : ℕ) (batch run records states : List ℕ) where
+  -- LAW: the dword entry
+  pub claimed : Claimed chip capacity batch run records states
+  unfolding orderOf
+  claimed =
+      record {
+        unknownChip = on-none (refusedResult records states) (λ c. orderFor (chips.target c capacity) batch run records states) chip;
+        named = λ c n. subst (Claims (chips.target c capacity) batch run records states (recorded set (chips.target c capacity) batch records) (decisionOf (chips.target c capacity) (length records) batch))
+            (sym (on-named (refusedResult records states) (λ c. orderFor (chips.target c capacity) batch run records states) chip c n))
+            (claimed-for (chips.target c capacity) batch run records states);
+      }
+
+  -- LAW: the byte entry
+  pub bytes-claimed : BytesClaimed chip capacity batch run records states
+  unfolding bytesOrderOf
+  bytes-claimed =
+      record {
+        unknownChip = on-none (refusedResult records states) (λ c. bytesOrderFor (chips.target c capacity) batch run records states) chip;
+        named = λ c n. subst (Claims (chips.target c capacity) (dwordsOf batch) (dwordsOf run) records states (recorded putLe (chips.target c capacity) (dwordsOf batch) records) (bytesDecision (chips.target c capacity) batch run records))
+            (sym (on-named (refusedResult records states) (λ c. bytesOrderFor (chips.target c capacity) batch run records states) chip c n))
+            (bytes-claimed-for (chips.target c capacity) batch run records states);
+      }
 
 pub all-claimed : AllClaimed
-all-claimed capacity batch run records states = (claimed capacity batch run records states, bytes-claimed capacity batch run records states)
+all-claimed chip capacity batch run records states = (claimed chip capacity batch run records states, bytes-claimed chip capacity batch run records states)

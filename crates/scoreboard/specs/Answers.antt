@@ -4,6 +4,8 @@ use mathlib.Core.Bool.{cond}
 use mathlib.Core.List.{List}
 use lib.Dec.{ltb}
 use lib.ListN.{length, set}
+use Rattle.chips.specs.declared.Target.{Target}
+use Rattle.chips.specs.Chips.{target, onChip}
 use Rattle.words.specs.Dwords.{dwordsOf, putLe, Buffer, putIn}
 use Rattle.reading.specs.Reading.{readingOf}
 use Rattle.reading.specs.Decision.{decided, wholeDwords}
@@ -13,9 +15,9 @@ use Rattle.runs.specs.declared.Verdict.{Verdict}
 use Rattle.runs.specs.Run.{ran}
 use Rattle.scoreboard.specs.declared.Answer.{Answer}
 
--- the objects of a batch that is read with a capacity in rows
-abbrev pub objectsIn : ℕ → List ℕ → List Object
-objectsIn capacity b = let cs = readingOf capacity b .passed in objectsOf cs cs
+-- the objects of a batch, for a chip and a target in rows
+abbrev pub objectsIn : Target → List ℕ → List Object
+objectsIn target b = let cs = readingOf target b .passed in objectsOf cs cs
 
 -- "An answer is every number returned." Object and delta are 0 where the number names none.
 abbrev pub refusedAnswer : ℕ → ℕ → Answer
@@ -35,34 +37,41 @@ pub record Result (B : Type 0) : Type 0 where
 abbrev pub refusedResult : {B : Type 0} → B → List ℕ → ℕ → ℕ → Result B
 refusedResult r states number place = record { answer = refusedAnswer number place; records = r; states = states }
 
--- The check, given the capacity in rows, the batch b, the run, the record buffer r, with room for so many words, and the state bytes. `put`
+-- The check for a known chip, given the target in rows, the batch b, the run, the record buffer r, with room for so many words, and the state bytes. `put`
 -- stores a word of the record buffer.
-module _ {B : Type 0} (put : B → ℕ → ℕ → B) (capacity room : ℕ) (b run : List ℕ) (r : B) (states : List ℕ) where
+module _ {B : Type 0} (put : B → ℕ → ℕ → B) (target : Target) (room : ℕ) (b run : List ℕ) (r : B) (states : List ℕ) where
   -- "Else the records are filled", and the run goes on to its end or to "the first bad event", "earlier effects kept"
   abbrev pub ranResult : Result B
   ranResult =
-      let x = ran (objectsIn capacity b) run states in
-      record { answer = ranAnswer (x .verdict) (x .position); records = recorded put capacity b r; states = x .states }
+      let x = ran (objectsIn target b) run states in
+      record { answer = ranAnswer (x .verdict) (x .position); records = recorded put target b r; states = x .states }
 
   -- "then 20 (fewer state bytes than objects; position 0)"
   abbrev pub acceptedResult : Result B
-  acceptedResult = cond (ltb (length states) (length (objectsIn capacity b))) (refusedResult r states 20 0) ranResult
+  acceptedResult = cond (ltb (length states) (length (objectsIn target b))) (refusedResult r states 20 0) ranResult
 
   -- "Refused with 1 to 10 .. of the batch, then 20"
   unfoldable pub orderIn : Result B
-  orderIn = decided (refusedResult r states) (λ commands dwords. acceptedResult) capacity room b
+  orderIn = decided (refusedResult r states) (λ commands dwords. acceptedResult) target room b
 
 -- a record buffer that is dwords or bytes
-abbrev pub bufferOrderOf : ℕ → List ℕ → List ℕ → Buffer → List ℕ → Result Buffer
-bufferOrderOf capacity b run r states = orderIn putIn capacity (length (r .view)) b run r states
+abbrev pub bufferOrderOf : Target → List ℕ → List ℕ → Buffer → List ℕ → Result Buffer
+bufferOrderOf target b run r states = orderIn putIn target (length (r .view)) b run r states
 
 -- the dword entry
-unfoldable pub orderOf : ℕ → List ℕ → List ℕ → List ℕ → List ℕ → Result (List ℕ)
-orderOf capacity b run r states = orderIn set capacity (length r) b run r states
+unfoldable pub orderFor : Target → List ℕ → List ℕ → List ℕ → List ℕ → Result (List ℕ)
+orderFor target b run r states = orderIn set target (length r) b run r states
 
 -- the byte entry: 17 of "batch, then run"; "Records there take 64 bytes each"
-unfoldable pub bytesOrderOf : ℕ → List ℕ → List ℕ → List ℕ → List ℕ → Result (List ℕ)
-bytesOrderOf capacity b run r states =
+unfoldable pub bytesOrderFor : Target → List ℕ → List ℕ → List ℕ → List ℕ → Result (List ℕ)
+bytesOrderFor target b run r states =
     wholeDwords (refusedResult r states) b
     (wholeDwords (refusedResult r states) run
-    (orderIn putLe capacity (length r / 4) (dwordsOf b) (dwordsOf run) r states))
+    (orderIn putLe target (length r / 4) (dwordsOf b) (dwordsOf run) r states))
+
+-- The entries, for any number as the chip: 18 before all else, and nothing lent changes.
+unfoldable pub orderOf : ℕ → ℕ → List ℕ → List ℕ → List ℕ → List ℕ → Result (List ℕ)
+orderOf chip capacity b run r states = onChip (refusedResult r states) (λ c. orderFor (target c capacity) b run r states) chip
+
+unfoldable pub bytesOrderOf : ℕ → ℕ → List ℕ → List ℕ → List ℕ → List ℕ → Result (List ℕ)
+bytesOrderOf chip capacity b run r states = onChip (refusedResult r states) (λ c. bytesOrderFor (target c capacity) b run r states) chip

@@ -6,6 +6,8 @@ use mathlib.Core.Logic.{_⊎_}
 use mathlib.Core.List.{List}
 use Prim.Native.Nat.{ℕ, _/_, _<_, _≤_}
 use lib.ListN.{length, getD, take, set}
+use Rattle.chips.specs.declared.Target.{Target}
+use Rattle.chips.specs.Chips.{target, Unnamed, ForChip}
 use Rattle.words.specs.Dwords.{dwordsOf, putLe}
 use Rattle.reading.specs.declared.Scanned.{Scanned}
 use Rattle.reading.specs.declared.Scanned.the-variants as variants
@@ -15,20 +17,20 @@ use Rattle.objects.specs.Objects.{Object}
 use Rattle.runs.specs.Run.{stateAt, objectOfEvent, starts, finishes, verdictOf, begun, ran}
 use Rattle.runs.specs.Waits.{Stalls, Blocks, Started}
 use Rattle.scoreboard.specs.declared.Answer.{Answer}
-use Rattle.scoreboard.specs.Answers.{objectsIn, refusedAnswer, Result, orderOf, bytesOrderOf}
+use Rattle.scoreboard.specs.Answers.{objectsIn, refusedAnswer, Result, refusedResult, orderOf, bytesOrderOf}
 
 -- the numbers of a batch that is turned away: "1 to 10 (or 17) of the batch"
 abbrev pub TurnedAway : ℕ → Type 0
 TurnedAway n = ((1 ≤ n) × (n ≤ 10)) ⊎ (n ≡ 17)
 
--- Of a batch and a run, with the records and states lent: what the check gives back. `filled` is the record buffer with the batch's
+-- Of a batch and a run for a known chip, with the records and states lent: what the check gives back. `filled` is the record buffer with the batch's
 -- records in it, and `decision` what the batch check decides of the batch.
-module _ (capacity : ℕ) (batch run records states filled : List ℕ) (decision : Scanned) (given : Result (List ℕ)) where
+module _ (target : Target) (batch run records states filled : List ℕ) (decision : Scanned) (given : Result (List ℕ)) where
   abbrev pub answer : Answer
   answer = given .answer
 
   abbrev pub objects : List Object
-  objects = objectsIn capacity batch
+  objects = objectsIn target batch
 
   -- the states that event n meets: "states begin 0", and each event gets what the one before left
   abbrev pub met : ℕ → List ℕ
@@ -109,24 +111,27 @@ module _ (capacity : ℕ) (batch run records states filled : List ℕ) (decision
     pub long : length (given .states) ≡ length states
 
 -- the decision over bytes: 17 of "batch, then run", then as over dwords
-abbrev pub bytesDecision : ℕ → List ℕ → List ℕ → List ℕ → Scanned
-bytesDecision capacity batch run records =
-    wholeDwords variants.Stopped batch (wholeDwords variants.Stopped run (decisionOf capacity (length records / 4) (dwordsOf batch)))
+abbrev pub bytesDecision : Target → List ℕ → List ℕ → List ℕ → Scanned
+bytesDecision target batch run records =
+    wholeDwords variants.Stopped batch (wholeDwords variants.Stopped run (decisionOf target (length records / 4) (dwordsOf batch)))
 
--- the dword entry
-abbrev pub Claimed : ℕ → List ℕ → List ℕ → List ℕ → List ℕ → Type 0
-Claimed capacity batch run records states =
-    Claims capacity batch run records states (recorded set capacity batch records) (decisionOf capacity (length records) batch)
-    (orderOf capacity batch run records states)
+-- the dword entry, for any number as the chip
+pub record Claimed (chip capacity : ℕ) (batch run records states : List ℕ) : Type 0 where
+  -- 18: "chip neither 6 nor 7, checked before all others"; "changes nothing lent and has place 0"
+  pub unknownChip : Unnamed chip → orderOf chip capacity batch run records states ≡ refusedResult records states 18 0
+  -- else what is claimed for the chip named, of which 18 is no number
+  pub named : ForChip chip (λ c. Claims (target c capacity) batch run records states (recorded set (target c capacity) batch records)
+      (decisionOf (target c capacity) (length records) batch) (orderOf chip capacity batch run records states))
 
 -- the byte entry, of the dwords of the batch and of the run
-abbrev pub BytesClaimed : ℕ → List ℕ → List ℕ → List ℕ → List ℕ → Type 0
-BytesClaimed capacity batch run records states =
-    Claims capacity (dwordsOf batch) (dwordsOf run) records states (recorded putLe capacity (dwordsOf batch) records)
-    (bytesDecision capacity batch run records) (bytesOrderOf capacity batch run records states)
+pub record BytesClaimed (chip capacity : ℕ) (batch run records states : List ℕ) : Type 0 where
+  pub unknownChip : Unnamed chip → bytesOrderOf chip capacity batch run records states ≡ refusedResult records states 18 0
+  pub named : ForChip chip (λ c. Claims (target c capacity) (dwordsOf batch) (dwordsOf run) records states
+      (recorded putLe (target c capacity) (dwordsOf batch) records)
+      (bytesDecision (target c capacity) batch run records) (bytesOrderOf chip capacity batch run records states))
 
 -- every order check, over dwords and over bytes, whatever is lent
 abbrev pub AllClaimed : Type 0
 AllClaimed =
-    (capacity : ℕ) (batch run records states : List ℕ)
-    → Claimed capacity batch run records states × BytesClaimed capacity batch run records states
+    (chip capacity : ℕ) (batch run records states : List ℕ)
+    → Claimed chip capacity batch run records states × BytesClaimed chip capacity batch run records states

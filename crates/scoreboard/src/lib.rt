@@ -1,6 +1,9 @@
 // The order check: is the order in which blocks ran one that the scoreboard permits?
 ghost use mathlib.Core.Path.{_≡_};
-ghost use Rattle.scoreboard.specs.Answers.{orderOf, bytesOrderOf};
+ghost use Rattle.scoreboard.specs.Answers.{orderFor, bytesOrderFor, orderOf, bytesOrderOf};
+use chips::Named;
+use chips::Target;
+use chips::chip_named;
 
 mod order;
 
@@ -15,23 +18,23 @@ pub struct Answer {
     pub delta: u64,
 }
 
-// The order check over dwords: a batch, the capacity in rows, a run, and what is lent for records and states.
-pub fn check(
+// The order check over dwords, for a known chip.
+fn check_for(
+    target: Target,
     batch: &[u32],
-    capacity: u32,
     run: &[u32],
     records: &mut [u32],
     states: &mut [u8],
 ) -> Answer
     ensures { λ r. ⌜ record { answer = r; records = now (records .exit); states = now (states .exit) }
-        ≡ orderOf capacity (now (batch .entry)) (now (run .entry)) (now (records .entry)) (now (states .entry)) ⌝ }
+        ≡ orderFor target (now (batch .entry)) (now (run .entry)) (now (records .entry)) (now (states .entry)) ⌝ }
 {
     let none: [u8; 0] = [];
     let mut empty: [u8; 0] = [];
     order::order(
+        target,
         batch,
         &none,
-        capacity,
         run,
         &none,
         records,
@@ -41,15 +44,15 @@ pub fn check(
 }
 
 // The same over little-endian bytes: the batch's 17, then the run's, before all else.
-pub fn check_bytes(
+fn check_bytes_for(
+    target: Target,
     batch: &[u8],
-    capacity: u32,
     run: &[u8],
     records: &mut [u8],
     states: &mut [u8],
 ) -> Answer
     ensures { λ r. ⌜ record { answer = r; records = now (records .exit); states = now (states .exit) }
-        ≡ bytesOrderOf capacity (now (batch .entry)) (now (run .entry)) (now (records .entry)) (now (states .entry)) ⌝ }
+        ≡ bytesOrderFor target (now (batch .entry)) (now (run .entry)) (now (records .entry)) (now (states .entry)) ⌝ }
 {
     if batch.len() % 4 != 0 {
         return order::refused(17, batch.len() / 4);
@@ -60,13 +63,55 @@ pub fn check_bytes(
     let none: [u32; 0] = [];
     let mut empty: [u32; 0] = [];
     order::order(
+        target,
         &none,
         batch,
-        capacity,
         &none,
         run,
         &mut empty,
         records,
         states,
     )
+}
+
+// The order check over dwords: the chip, a batch, the capacity in rows, a run, and what is lent for records and states.
+pub fn check(
+    chip: u32,
+    batch: &[u32],
+    capacity: u32,
+    run: &[u32],
+    records: &mut [u32],
+    states: &mut [u8],
+) -> Answer
+    ensures { λ r. ⌜ record { answer = r; records = now (records .exit); states = now (states .exit) }
+        ≡ orderOf chip capacity (now (batch .entry)) (now (run .entry)) (now (records .entry)) (now (states .entry)) ⌝ }
+{
+    match chip_named(chip) {
+        Named::Unknown => order::refused(18, 0),
+        Named::Known { chip } => check_for(Target { chip, capacity }, batch, run, records, states),
+    }
+}
+
+// The same over little-endian bytes.
+pub fn check_bytes(
+    chip: u32,
+    batch: &[u8],
+    capacity: u32,
+    run: &[u8],
+    records: &mut [u8],
+    states: &mut [u8],
+) -> Answer
+    ensures { λ r. ⌜ record { answer = r; records = now (records .exit); states = now (states .exit) }
+        ≡ bytesOrderOf chip capacity (now (batch .entry)) (now (run .entry)) (now (records .entry)) (now (states .entry)) ⌝ }
+{
+    match chip_named(chip) {
+        Named::Unknown => order::refused(18, 0),
+        Named::Known { chip } => check_bytes_for(
+            Target { chip, capacity },
+            batch,
+            run,
+            records,
+            states,
+        ),
+    }
 }

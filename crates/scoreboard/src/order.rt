@@ -3,6 +3,7 @@ ghost use mathlib.Core.Path.{_≡_};
 ghost use Rattle.words.specs.Dwords.{lent, lentBuffer};
 ghost use Rattle.scoreboard.specs.Answers.{refusedAnswer, ranAnswer, bufferOrderOf};
 use crate::Answer;
+use chips::Target;
 use reading::Scanned;
 use reading::decide;
 use records::fill;
@@ -36,9 +37,9 @@ fn answered(end: RunEnd) -> Answer
 
 // The records are written only when 20 is known.
 pub fn order(
+    target: Target,
     dw: &[u32],
     by: &[u8],
-    capacity: u32,
     ed: &[u32],
     eb: &[u8],
     rd: &mut [u32],
@@ -46,10 +47,10 @@ pub fn order(
     states: &mut [u8],
 ) -> Answer
     ensures { λ r. ⌜ record { answer = r; records = lentBuffer (rd .exit) (rb .exit); states = now (states .exit) }
-        ≡ bufferOrderOf capacity (lent (dw .entry) (by .entry)) (lent (ed .entry) (eb .entry))
+        ≡ bufferOrderOf target (lent (dw .entry) (by .entry)) (lent (ed .entry) (eb .entry))
         (lentBuffer (rd .entry) (rb .entry)) (now (states .entry)) ⌝ }
 {
-    match decide(dw, by, capacity, held(rd, rb)) {
+    match decide(target, dw, by, held(rd, rb)) {
         Scanned::Stopped { number, place } => refused(number, place),
         Scanned::Ended {
             commands,
@@ -59,7 +60,7 @@ pub fn order(
             if states.len() < objects {
                 return refused(20, 0);
             }
-            fill(dw, by, capacity, rd, rb);
+            fill(target, dw, by, rd, rb);
             begin(states, objects);
             answered(run(rd, rb, commands, objects, ed, eb, states))
         }

@@ -54,9 +54,9 @@ spelt n k l e h f q = ap (λ (m : ℕ). take m (take k l)) e ∙ take-length (ta
 
 -- the names in one row
 abbrev letters : List ℕ
-letters = 78 ∷ 79 ∷ 80 ∷ 70 ∷ 76 ∷ 85 ∷ 69 ∷ 78 ∷ 68 ∷ 86 ∷ 70 ∷ 69 ∷ 67 ∷ 85 ∷ 82 ∷ 73 ∷ 68 ∷ 76 ∷ 83 ∷ 70 ∷ 76 ∷ 79 ∷ 66 ∷ 74 ∷ []
+letters = 78 ∷ 79 ∷ 80 ∷ 70 ∷ 76 ∷ 85 ∷ 69 ∷ 78 ∷ 68 ∷ 86 ∷ 70 ∷ 69 ∷ 67 ∷ 85 ∷ 82 ∷ 73 ∷ 68 ∷ 76 ∷ 83 ∷ 70 ∷ 76 ∷ 79 ∷ 66 ∷ 74 ∷ 71 ∷ 87 ∷ 83 ∷ []
 
-pub named : (kind : ℕ) → kind < 8 → take 3 (drop (3 * kind) letters) ≡ nameOf kind
+pub named : (kind : ℕ) → kind < 9 → take 3 (drop (3 * kind) letters) ≡ nameOf kind
 unfolding nameOf
 named zero h = refl
 named (suc zero) h = refl
@@ -66,4 +66,5 @@ named (suc (suc (suc (suc zero)))) h = refl
 named (suc (suc (suc (suc (suc zero))))) h = refl
 named (suc (suc (suc (suc (suc (suc zero)))))) h = refl
 named (suc (suc (suc (suc (suc (suc (suc zero))))))) h = refl
-named (suc (suc (suc (suc (suc (suc (suc (suc i)))))))) h = absurd (omega arith)
+named (suc (suc (suc (suc (suc (suc (suc (suc zero)))))))) h = refl
+named (suc (suc (suc (suc (suc (suc (suc (suc (suc i))))))))) h = absurd (omega arith)

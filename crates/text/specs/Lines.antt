@@ -20,7 +20,7 @@ space = 32 ∷ []
 abbrev pub newline : List ℕ
 newline = 10 ∷ []
 
--- by kind: NOP FLU END VFE CUR IDL SFL OBJ
+-- by kind: NOP FLU END VFE CUR IDL SFL OBJ; document 02, One: "kind 8, listed GWS"
 abbrev pub names : List (List ℕ)
 names =
     (78 ∷ 79 ∷ 80 ∷ [])
@@ -31,9 +31,10 @@ names =
     ∷ (73 ∷ 68 ∷ 76 ∷ [])
     ∷ (83 ∷ 70 ∷ 76 ∷ [])
     ∷ (79 ∷ 66 ∷ 74 ∷ [])
+    ∷ (71 ∷ 87 ∷ 83 ∷ [])
     ∷ []
 
--- a kind that is none of the eight has no name: `kinds-known` of reading shows that no command passed is of such a kind
+-- a kind that is none of those has no name: `kinds-known` of reading shows that no command passed is of such a kind
 unfoldable pub nameOf : ℕ → List ℕ
 nameOf kind = getD names kind []
 

@@ -37,15 +37,15 @@ fn number(text: &mut [u8], at: usize, n: u64) -> usize
 }
 
 fn name(text: &mut [u8], at: usize, kind: u32) -> usize
-    requires { ⌜ (at + 3 ≤ length (now text)) × (kind < 8) ⌝ }
+    requires { ⌜ (at + 3 ≤ length (now text)) × (kind < 9) ⌝ }
     ensures { λ r. ⌜ Wrote (now (text .entry)) at (nameOf kind) (now (text .exit)) r × (r ≡ at + 3) ⌝ }
 {
-    let letters = *b"NOPFLUENDVFECURIDLSFLOBJ";
+    let letters = *b"NOPFLUENDVFECURIDLSFLOBJGWS";
     put(text, at, &letters, 3 * kind as usize, 3)
 }
 
 pub fn line(text: &mut [u8], at: usize, place: u32, kind: u32, total: u32) -> usize
-    requires { ⌜ (at + 46 ≤ length (now text)) × (kind < 8) ⌝ }
+    requires { ⌜ (at + 46 ≤ length (now text)) × (kind < 9) ⌝ }
     ensures { λ r. ⌜ Wrote (now (text .entry)) at (lineOf place kind total) (now (text .exit)) r × (r ≤ at + 46) ⌝ }
 {
     let a = number(text, at, place as u64);

@@ -25,14 +25,17 @@ const EXAMPLE: [u32; 19] = [
 
 const UNTOUCHED: u32 = 0xa5a5_a5a5;
 
+const CHIPS: [u32; 2] = [6, 7];
+
 /// Runs both entries and demands that they agree; on refusal nothing may change.
-fn run(batch: &[u32], capacity: u32, words: usize) -> (Answer, Vec<u32>) {
+fn run_on(chip: u32, batch: &[u32], capacity: u32, words: usize) -> (Answer, Vec<u32>) {
     let mut records = vec![UNTOUCHED; words];
-    let answer = check(batch, capacity, &mut records);
+    let answer = check(chip, batch, capacity, &mut records);
 
     let bytes: Vec<u8> = batch.iter().flat_map(|word| word.to_le_bytes()).collect();
     let mut record_bytes = vec![0xa5; words * 4];
-    assert_eq!(check_bytes(&bytes, capacity, &mut record_bytes), answer);
+    let over_bytes = check_bytes(chip, &bytes, capacity, &mut record_bytes);
+    assert_eq!(over_bytes, answer);
     let same: Vec<u8> = records.iter().flat_map(|word| word.to_le_bytes()).collect();
     assert_eq!(record_bytes, same);
 
@@ -41,8 +44,21 @@ fn run(batch: &[u32], capacity: u32, words: usize) -> (Answer, Vec<u32>) {
     (answer, records)
 }
 
+/// On both chips, which must agree.
+fn run(batch: &[u32], capacity: u32, words: usize) -> (Answer, Vec<u32>) {
+    let [on_6, on_7] = CHIPS.map(|chip| run_on(chip, batch, capacity, words));
+    assert_eq!(on_6, on_7);
+    on_7
+}
+
 fn answer(batch: &[u32]) -> (u64, u64) {
     let (answer, _) = run(batch, 2048, RECORD * 64);
+    (answer.number, answer.place)
+}
+
+/// On one chip.
+fn answer_on(chip: u32, batch: &[u32]) -> (u64, u64) {
+    let (answer, _) = run_on(chip, batch, 2048, RECORD * 64);
     (answer.number, answer.place)
 }
 
@@ -63,6 +79,7 @@ const A_CURBE: &[u32] = &[0x7001_0002, 0, 128, 0];
 const A_LOAD: &[u32] = &[0x7002_0002, 0, 0x20, 0x1000];
 const A_STATE_FLUSH: &[u32] = &[0x7004_0000, 0];
 const AN_OBJECT: &[u32] = &[0x7100_0004, 0, 0, 0, 0, 0];
+const A_GATEWAY: &[u32] = &[0x7003_0000, 0x0003_0208];
 const A_FLUSH: &[u32] = &[FLUSH];
 const THE_END: &[u32] = &[END];
 
@@ -81,8 +98,9 @@ fn worked_example() {
     assert_eq!(run(&[], 2048, 70).0, Answer::refused(2, 0));
 }
 
+/// Every field full, but for the bits that Gen7 judges.
 #[test]
-fn records() {
+fn records_of_gen7() {
     let batch = sequence(&[
         &[NOOP],
         &[
@@ -111,8 +129,10 @@ fn records() {
         A_FLUSH,
         THE_END,
     ]);
-    let (answer, records) = run(&batch, 63, 8 * RECORD);
+    let (answer, records) = run_on(7, &batch, 63, 8 * RECORD);
     assert_eq!(answer, Answer::accepted(8, 29));
+    // Bits 4:2 of the VFE's dword 2.
+    assert_eq!(answer_on(6, &batch), (6, 3));
     let expected: [&[u32]; 8] = [
         &[0, 0, 1],
         &[
@@ -152,10 +172,92 @@ fn records() {
         &[1, 27, 1],
         &[2, 28, 1],
     ];
+    assert_records(&records, &expected);
+}
+
+/// What each record holds, zeros after it.
+fn assert_records(records: &[u32], expected: &[&[u32]]) {
+    assert_eq!(records.len(), RECORD * expected.len());
     for (record, expected) in records.chunks(RECORD).zip(expected) {
-        assert_eq!(&record[..expected.len()], expected);
+        assert_eq!(&record[..expected.len()], *expected);
         assert!(record[expected.len()..].iter().all(|&word| word == 0));
     }
+}
+
+/// The same of Gen6.
+#[test]
+fn records_of_gen6() {
+    let batch = sequence(&[
+        &[
+            0x7000_0006,
+            0xffff_fcff,
+            0xabcd_12e3,
+            0xffff_ff00,
+            0x0003_0009,
+            0xc000_00ff,
+            0x8765_4321,
+            0xfedc_ba98,
+        ],
+        &[0x7003_0000, 0x00ff_ffff],
+        &[0x7003_0000, 0],
+        &[0x7002_0002, 0, 2048, 0x20],
+        &[0x7004_0000, 0x00ff_ffff],
+        &[
+            0x7100_0005,
+            0xffff_ff3f,
+            0x812f_ffff,
+            0x1fff_ffff,
+            0x01ff_01fe,
+            0x000a_00bc,
+            END,
+        ],
+        THE_END,
+    ]);
+    let (answer, records) = run_on(6, &batch, 63, 7 * RECORD);
+    assert_eq!(answer, Answer::accepted(7, 26));
+    // Bits 7:4 of the VFE's dword 1.
+    assert_eq!(answer_on(7, &batch), (6, 1));
+    let vfe = [
+        3,
+        0,
+        8,
+        0xabcd,
+        0x12,
+        1,
+        3,
+        9,
+        0xc000_00ff,
+        0x8765_4321,
+        0xfedc_ba98,
+    ];
+    let object = [
+        7,
+        18,
+        7,
+        0x3f,
+        1,
+        1,
+        1,
+        0x1fe,
+        0x1ff,
+        0xa,
+        0xbc,
+        1,
+        0x1_ffff,
+        0x1fff_ffff,
+        0,
+        0,
+    ];
+    let expected: [&[u32]; 7] = [
+        &vfe,
+        &[8, 8, 2, 0x00ff_ffff],
+        &[8, 10, 2, 0],
+        &[5, 12, 4, 64, 0x20],
+        &[6, 16, 2, 0x00ff_ffff],
+        &object,
+        &[2, 25, 1],
+    ];
+    assert_records(&records, &expected);
 }
 
 #[test]
@@ -179,11 +281,15 @@ fn refusal_3_unknown_header() {
         1,
         0x0200_0001,
         0x0500_0001,
-        0x7003_0002,
+        0x7005_0002,
         0x7101_0004,
         0x6900_0006,
     ] {
         assert_eq!(answer(&with(8, header)), (3, 8));
+    }
+    // MEDIA_GATEWAY_STATE on Gen7, whatever its length field.
+    for header in (0x7003_0000..0x7003_0010).chain([0x7003_ffff]) {
+        assert_eq!(answer_on(7, &with(8, header)), (3, 8));
     }
 }
 
@@ -193,6 +299,9 @@ fn refusal_4_length_field() {
     assert_eq!(answer(&with(0, 0x7000_0007)), (4, 0));
     assert_eq!(answer(&with(8, 0x7002_0003)), (4, 8));
     assert_eq!(answer(&with(12, 0x7100_0003)), (4, 12));
+    for header in (0x7003_0001..0x7003_0010).chain([0x7003_ffff]) {
+        assert_eq!(answer_on(6, &with(8, header)), (4, 8));
+    }
 }
 
 #[test]
@@ -206,29 +315,44 @@ fn refusal_5_past_the_slice() {
     assert_eq!(answer(&with(12, 0x7100_0005)), (2, 19));
     assert_eq!(answer(&with(12, 0x7100_0006)), (5, 12));
     assert_eq!(answer(&with(12, 0x7100_ffff)), (5, 12));
+    assert_eq!(answer_on(6, &sequence(&[A_VFE, &[0x7003_0000]])), (5, 8));
+    let two = sequence(&[A_VFE, A_GATEWAY, &[0x7003_0000]]);
+    assert_eq!(answer_on(6, &two), (5, 10));
 }
 
+/// Each judged bit of each command, alone; then each bit that is not judged.
 #[test]
 fn refusal_6_must_be_zero() {
-    for (place, masks) in [
-        (0, &masks::VFE),
-        (8, &masks::DESCRIPTOR),
-        (12, &masks::OBJECT),
-    ] {
-        for (dword, mask) in masks.iter().enumerate() {
-            for bit in (0..32)
-                .map(|shift| 1 << shift)
-                .filter(|bit| bit & mask != 0)
-            {
-                let mut batch = EXAMPLE.to_vec();
-                batch[place + dword] |= bit;
-                assert_eq!(answer(&batch), (6, (place + dword) as u64));
-            }
-        }
+    let batch = sequence(&[A_VFE, A_CURBE, A_LOAD, AN_OBJECT, A_STATE_FLUSH]);
+    let places = [(3, 0), (4, 8), (5, 12), (7, 16), (6, 22)];
+    let gateway = sequence(&[&batch, A_GATEWAY, A_GATEWAY, THE_END]);
+    let batch = sequence(&[&batch, THE_END]);
+    for (kind, place) in places {
+        every_bit(7, &batch, kind, place);
+    }
+    for (kind, place) in places.into_iter().chain([(8, 24), (8, 26)]) {
+        every_bit(6, &gateway, kind, place);
     }
     let mut two = with(17, 0x100);
     two[13] = 0x40;
     assert_eq!(answer(&two), (6, 13));
+}
+
+/// The command at this place with one bit more, in any dword after its header.
+fn every_bit(chip: u32, batch: &[u32], kind: usize, place: usize) {
+    assert_eq!(answer_on(chip, batch), (0, 0));
+    let total = length_field(batch[place]) + 2;
+    let masks = crate::masks::of(chip)[kind];
+    assert!(masks[total..].iter().all(|&mask| mask == 0));
+    for dword in place + 1..place + total {
+        for bit in (0..32).map(|shift| 1 << shift) {
+            let mut batch = batch.to_vec();
+            batch[dword] |= bit;
+            let judged = masks[dword - place] & bit != 0;
+            let refused = answer_on(chip, &batch) == (6, dword as u64);
+            assert_eq!(refused, judged, "kind {kind}, dword {dword}, bit {bit:x}");
+        }
+    }
 }
 
 #[test]
@@ -281,6 +405,54 @@ fn refusal_8_order() {
     assert_eq!(answer(&sequence(&kept)), (0, 0));
 }
 
+/// Kind 8 is ordered as kind 4 is.
+#[test]
+fn refusal_8_order_of_gateway_states() {
+    let answer = |commands: &[&[u32]]| answer_on(6, &sequence(commands));
+    assert_eq!(answer(&[A_FLUSH, A_GATEWAY, THE_END]), (8, 1));
+    // A VFE stays in force across MI_FLUSH.
+    assert_eq!(answer(&[A_VFE, A_FLUSH, A_GATEWAY, THE_END]), (0, 0));
+    // It stands in a later VFE's way; a state flush does not help.
+    let before = [A_VFE, A_FLUSH, A_GATEWAY];
+    let before = sequence(&before);
+    assert_eq!(answer(&[&before, A_VFE, THE_END]), (8, 11));
+    assert_eq!(answer(&[&before, A_STATE_FLUSH, A_VFE, THE_END]), (8, 13));
+    assert_eq!(answer(&[&before, A_FLUSH, A_VFE, THE_END]), (0, 0));
+    let two = sequence(&[&before, A_GATEWAY]);
+    assert_eq!(answer(&[&two, A_VFE, THE_END]), (8, 13));
+    // It has no part in a descriptor load's rule.
+    let used = sequence(&[A_VFE, A_LOAD, AN_OBJECT, A_GATEWAY]);
+    assert_eq!(answer(&[&used, A_LOAD, THE_END]), (8, 20));
+    assert_eq!(answer(&[&used, A_STATE_FLUSH, A_LOAD, THE_END]), (0, 0));
+    let between = sequence(&[A_VFE, A_LOAD, A_GATEWAY]);
+    assert_eq!(answer(&[&between, A_LOAD, AN_OBJECT, THE_END]), (0, 0));
+    // 4, 5 and 6 come before.
+    assert_eq!(answer(&[&[0x7003_0001], THE_END]), (4, 0));
+    assert_eq!(answer(&[&[0x7003_0000]]), (5, 0));
+    assert_eq!(answer(&[&[0x7003_0000, u32::MAX], THE_END]), (6, 1));
+}
+
+/// The manual's sequence for barrier groups (000, lines 210 to 231), without the commands
+/// that are in no table.
+#[test]
+fn barrier_groups() {
+    let group: &[&[u32]] = &[
+        A_LOAD,
+        A_CURBE,
+        A_GATEWAY,
+        A_STATE_FLUSH,
+        AN_OBJECT,
+        AN_OBJECT,
+    ];
+    let groups = [group, &[A_STATE_FLUSH], group].concat();
+    let batch = sequence(&[&[A_VFE], &groups[..], &[A_FLUSH, THE_END]].concat());
+    assert_eq!(answer_on(6, &batch), (0, 0));
+    assert_eq!(answer_on(7, &batch), (3, 16));
+    // Without the flush between, the second descriptor load comes too early.
+    let batch = sequence(&[&[A_VFE], group, group, &[A_FLUSH, THE_END]].concat());
+    assert_eq!(answer_on(6, &batch), (8, 32));
+}
+
 #[test]
 fn refusal_9_capacity() {
     assert_eq!(run(&EXAMPLE, 5, 64).0, Answer::refused(9, 0));
@@ -313,30 +485,46 @@ fn refusal_10_record_buffer() {
 #[test]
 fn refusal_17_odd_bytes() {
     let mut bytes: Vec<u8> = EXAMPLE.iter().flat_map(|word| word.to_le_bytes()).collect();
+    let check_bytes = |batch: &[u8], records: &mut [u8]| {
+        let left = records.to_vec();
+        let [on_6, on_7] = CHIPS.map(|chip| {
+            records.copy_from_slice(&left);
+            super::check_bytes(chip, batch, 6, records)
+        });
+        assert_eq!(on_6, on_7);
+        on_7
+    };
     for _ in 1..4 {
         bytes.push(0);
         let mut records = [7; 256];
-        assert_eq!(
-            check_bytes(&bytes, 6, &mut records),
-            Answer::refused(17, 19)
-        );
+        assert_eq!(check_bytes(&bytes, &mut records), Answer::refused(17, 19));
         assert_eq!(records, [7; 256]);
     }
     // 17 is tested before 1; 255 bytes hold three records.
     let long = vec![0; 4 * LIMIT + 5];
-    assert_eq!(
-        check_bytes(&long, 6, &mut []),
-        Answer::refused(17, LIMIT + 1)
-    );
+    assert_eq!(check_bytes(&long, &mut []), Answer::refused(17, LIMIT + 1));
     bytes.truncate(76);
-    assert_eq!(
-        check_bytes(&bytes, 6, &mut [0; 255]),
-        Answer::refused(10, 19)
-    );
-    assert_eq!(
-        check_bytes(&bytes, 6, &mut [0; 259]),
-        Answer::accepted(4, 19)
-    );
+    assert_eq!(check_bytes(&bytes, &mut [0; 255]), Answer::refused(10, 19));
+    assert_eq!(check_bytes(&bytes, &mut [0; 259]), Answer::accepted(4, 19));
+}
+
+#[test]
+fn refusal_18_unknown_chip() {
+    let refused = Answer::refused(18, 0);
+    let long = vec![NOOP; LIMIT + 1];
+    for chip in [0, 1, 5, 8, 9, 60, 70, 0x106, 0x107, u32::MAX] {
+        for batch in [&EXAMPLE[..], &[], &[1], &long] {
+            assert_eq!(run_on(chip, batch, 6, 70).0, refused);
+        }
+        // Before 17 and 1, even of nothing lent.
+        for bytes in [0, 1, 3, 77, 4 * LIMIT + 7] {
+            let mut records = [7; 256];
+            let answer = check_bytes(chip, &vec![0; bytes], 6, &mut records);
+            assert_eq!((answer, records), (refused, [7; 256]));
+        }
+        assert_eq!(check_bytes(chip, &[], 0, &mut []), refused);
+        assert_eq!(passed_inline_data(chip, &EXAMPLE, 6), []);
+    }
 }
 
 #[test]
@@ -358,15 +546,23 @@ fn inline_data_of_passed_objects() {
     let bad = &[0x7100_0005, 0x40, 0, 0, 0, 0, END];
     let before = sequence(&[A_VFE, A_LOAD, object, AN_OBJECT, object]);
     let passed = [18..20, 26..26, 32..34];
-    // END, a fault or the slice's end: what stands after it is not passed.
-    for after in [&[THE_END, object][..], &[bad, object, THE_END], &[]] {
-        let batch = [before.clone(), sequence(after)].concat();
-        assert_eq!(passed_inline_data(&batch, 6), passed);
-        assert_eq!(passed_inline_data(&batch, 5), []);
+    for chip in CHIPS {
+        // END, a fault or the slice's end: what stands after it is not passed.
+        for after in [&[THE_END, object][..], &[bad, object, THE_END], &[]] {
+            let batch = [before.clone(), sequence(after)].concat();
+            assert_eq!(passed_inline_data(chip, &batch, 6), passed);
+            assert_eq!(passed_inline_data(chip, &batch, 5), []);
+        }
+        // Rule 1 has no say.
+        let mut long = vec![NOOP; LIMIT];
+        long.extend(&before);
+        let passed = passed
+            .clone()
+            .map(|inline| inline.start + LIMIT..inline.end + LIMIT);
+        assert_eq!(passed_inline_data(chip, &long, 6), passed);
     }
-    // Rule 1 has no say.
-    let mut long = vec![NOOP; LIMIT];
-    long.extend(before);
-    let passed = passed.map(|inline| inline.start + LIMIT..inline.end + LIMIT);
-    assert_eq!(passed_inline_data(&long, 6), passed);
+    // MEDIA_GATEWAY_STATE ends what Gen7 passes, not what Gen6 does.
+    let batch = sequence(&[A_VFE, A_LOAD, object, A_GATEWAY, object, THE_END]);
+    assert_eq!(passed_inline_data(6, &batch, 6), [18..20, 28..30]);
+    assert_eq!(passed_inline_data(7, &batch, 6), [18..20; 1]);
 }

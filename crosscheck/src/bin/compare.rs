@@ -1,7 +1,8 @@
 //! Compares the library with the second implementation on seeded cases.
 //!
 //! `compare [subject] [cases [seed [index]]]`: one subject alone; random cases per
-//! subject on top of the fixed ones, the seed, and one case to compare alone.
+//! subject on top of the fixed ones, the seed, and one case to compare alone. MPL_LIST and
+//! MPL_LIST6 name the listing programs, Gen7's and Gen6's.
 
 use crosscheck::compare::{self, Plan, Report};
 use std::process::ExitCode;

@@ -1,16 +1,21 @@
 //! The batch check: library against second implementation, over dwords and over bytes.
 
-use super::{print_input, Faults, Plan, Report, Tally};
-use crate::batch::{self, Answer, END, RECORD};
+use super::chips::{may_differ, Chips, OnBoth};
+use super::masks::Met;
+use super::{print_input, Faults, Plan, Report};
+use crate::batch::{self, known, Answer, END, RECORD};
 use crate::ffi;
-use crate::generate::batch::{random_case, sweep, Case};
+use crate::generate::batch::{other_chip, random_case, sweep, Case, CHIPS, NO_CHIPS};
 use crate::guard::{Cell, Guarded};
 use crate::random::Random;
 
 pub fn run(plan: &Plan, report: &mut Report) {
-    each(plan, report, &sweep(plan.seed), random_case);
+    let met = each(plan, report, &sweep(plan.seed), random_case);
     if plan.only.is_none() {
-        report.case(nothing());
+        met.print(report);
+        for chip in CHIPS.into_iter().chain(NO_CHIPS) {
+            report.case(nothing(chip));
+        }
     }
 }
 
@@ -20,74 +25,92 @@ pub(super) fn each(
     report: &mut Report,
     fixed: &[Case],
     random_case: fn(&mut Random) -> Case,
-) {
-    let mut dwords = Tally::new("batch check over dwords", 0..=10);
-    let mut bytes = Tally::new("batch check over bytes", (0..=10).chain([17]));
+) -> Met {
+    let mut tallies = Tallies {
+        dwords: Chips::new("batch check over dwords", 0..=10),
+        bytes: Chips::new("batch check over bytes", (0..=10).chain([17])),
+        on_both: OnBoth::default(),
+        met: Met::default(),
+    };
     plan.each(fixed, random_case, |index, case, random| {
-        let outcome = compare(case, random, &mut dwords, &mut bytes);
+        let outcome = compare(case, random, &mut tallies);
         report.case(outcome.map_err(|found| describe(plan, index, case, &found)));
     });
     if plan.only.is_none() {
-        dwords.print(report);
-        bytes.print(report);
+        tallies.dwords.print(report);
+        tallies.bytes.print(report);
+        tallies.on_both.print(report);
     }
+    tallies.met
+}
+
+/// What the cases reached.
+struct Tallies {
+    dwords: Chips,
+    bytes: Chips,
+    on_both: OnBoth,
+    met: Met,
 }
 
 /// Null pointers at length 0: an empty batch, which is used up at once.
-fn nothing() -> Result<(), String> {
-    let answers = ffi::check_nothing(0);
-    let expected = Answer::refused(2, 0);
+fn nothing(chip: u32) -> Result<(), String> {
+    let answers = ffi::check_nothing(chip, 0);
+    let expected = match known(chip) {
+        true => Answer::refused(2, 0),
+        false => Answer::refused(18, 0),
+    };
     if answers == [expected; 2] {
         Ok(())
     } else {
         Err(format!(
-            "nothing lent: library {answers:?}, expected {expected:?}"
+            "nothing lent for chip {chip}: library {answers:?}, expected {expected:?}"
         ))
     }
 }
 
-fn compare(
-    case: &Case,
-    random: &mut Random,
-    dwords: &mut Tally,
-    bytes: &mut Tally,
-) -> Result<(), String> {
+fn compare(case: &Case, random: &mut Random, tallies: &mut Tallies) -> Result<(), String> {
     let batch = Guarded::new(random, &case.batch).followed_by(&[END]);
     let records = Guarded::filled(random, case.records);
-    let over_dwords = Entry {
+    let entry = Entry {
         name: "dwords",
         library: ffi::check_batch_dwords,
         second: batch::check,
         record: RECORD,
+    };
+    let over_dwords = entry.compare(case, &batch, &records)?;
+    let answer = over_dwords.answer;
+    tallies.dwords.of(case.chip).count(answer.number);
+    match answer.number {
+        0 if entry.one_reading(case, &over_dwords, &records)? => tallies.on_both.count(),
+        6 => tallies.met.count(case, answer.place as usize),
+        _ => {}
     }
-    .compare(&batch, case.capacity, &records)?;
-    dwords.count(over_dwords.number);
 
     let batch = Guarded::new(random, &case.bytes()).followed_by(&END.to_le_bytes());
     let records = Guarded::filled(random, case.record_bytes());
-    let over_bytes = Entry {
+    let entry = Entry {
         name: "bytes",
         library: ffi::check_batch,
         second: batch::check_bytes,
         record: 4 * RECORD,
-    }
-    .compare(&batch, case.capacity, &records)?;
-    bytes.count(over_bytes.number);
+    };
+    let over_bytes = entry.compare(case, &batch, &records)?.answer;
+    tallies.bytes.of(case.chip).count(over_bytes.number);
 
-    // The two entries follow the same rules but for 17.
-    let expected = match case.tail.len() {
-        0 => over_dwords,
-        _ => Answer::refused(17, case.batch.len()),
+    // The two entries follow the same rules but for 17, which comes after 18.
+    let expected = match case.tail.is_empty() || !known(case.chip) {
+        true => answer,
+        false => Answer::refused(17, case.batch.len()),
     };
     if over_bytes != expected {
         return Err(format!(
-            "the entries disagree: dwords {over_dwords:?}, bytes {over_bytes:?}"
+            "the entries disagree: dwords {answer:?}, bytes {over_bytes:?}"
         ));
     }
     Ok(())
 }
 
-type Check<T> = fn(&[T], u32, &mut [T]) -> Answer;
+type Check<T> = fn(u32, &[T], u32, &mut [T]) -> Answer;
 
 struct Entry<T> {
     name: &'static str,
@@ -98,15 +121,16 @@ struct Entry<T> {
 }
 
 impl<T: Cell> Entry<T> {
-    /// Both implementations over copies of the same buffers; gives the common answer.
+    /// Both implementations over copies of the same buffers; gives the library's side,
+    /// which is the second's too.
     fn compare(
         &self,
+        case: &Case,
         batch: &Guarded<T>,
-        capacity: u32,
         records: &Guarded<T>,
-    ) -> Result<Answer, String> {
-        let by_library = Side::run(self.library, batch, capacity, records);
-        let by_second = Side::run(self.second, batch, capacity, records);
+    ) -> Result<Side<T>, String> {
+        let by_library = Side::run(self.library, case, batch, records);
+        let by_second = Side::run(self.second, case, batch, records);
         let mut faults = Faults::default();
         if by_library.answer != by_second.answer {
             faults.add("answers", "differ");
@@ -127,7 +151,7 @@ impl<T: Cell> Entry<T> {
             }
         }
         if faults.0.is_empty() {
-            return Ok(by_library.answer);
+            return Ok(by_library);
         }
         Err(format!(
             "over {}, {} lent for the batch, {} for records\n  library {:?}\n  second  {:?}{}",
@@ -139,6 +163,33 @@ impl<T: Cell> Entry<T> {
             faults.0,
         ))
     }
+
+    /// A batch that the chip accepts is read alike by the other one, where that accepts
+    /// it too: then true.
+    fn one_reading(
+        &self,
+        case: &Case,
+        accepted: &Side<T>,
+        records: &Guarded<T>,
+    ) -> Result<bool, String> {
+        let batch = accepted.batch.lent();
+        let mut records = records.clone();
+        let lent = records.lent_mut();
+        let answer = (self.library)(other_chip(case.chip), batch, case.capacity, lent);
+        if may_differ(answer.number) {
+            return Ok(false);
+        }
+        let mut faults = Faults::default();
+        if answer != accepted.answer {
+            let answers = format!("{:?} against {answer:?}", accepted.answer);
+            faults.add("answers", &answers);
+        }
+        faults.difference("records", accepted.records.difference(&records));
+        match faults.0.is_empty() {
+            true => Ok(true),
+            false => Err(format!("the library on the other chip:{}", faults.0)),
+        }
+    }
 }
 
 /// One implementation's answer and what it left of the lent buffers.
@@ -149,10 +200,10 @@ struct Side<T> {
 }
 
 impl<T: Cell> Side<T> {
-    fn run(check: Check<T>, batch: &Guarded<T>, capacity: u32, records: &Guarded<T>) -> Self {
+    fn run(check: Check<T>, case: &Case, batch: &Guarded<T>, records: &Guarded<T>) -> Self {
         let batch = batch.clone();
         let mut records = records.clone();
-        let answer = check(batch.lent(), capacity, records.lent_mut());
+        let answer = check(case.chip, batch.lent(), case.capacity, records.lent_mut());
         Side {
             answer,
             batch,
@@ -163,8 +214,9 @@ impl<T: Cell> Side<T> {
 
 fn describe(plan: &Plan, index: u64, case: &Case, difference: &str) -> String {
     let mut text = format!(
-        "{}: {} dwords, {} bytes more, capacity {}\n  {difference}",
+        "{}: chip {}, {} dwords, {} bytes more, capacity {}\n  {difference}",
         plan.again(index),
+        case.chip,
         case.batch.len(),
         case.tail.len(),
         case.capacity,

@@ -1,5 +1,5 @@
-//! Junk and near-valid batches, runs and recordings: library against second
-//! implementation, as many of each as there are cases.
+//! Junk and near-valid batches, runs and recordings, batches for any chip: library
+//! against second implementation, as many of each as there are cases.
 
 use super::{Plan, Report};
 use crate::generate::fuzz;

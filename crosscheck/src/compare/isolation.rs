@@ -1,9 +1,11 @@
 //! Isolation, the owner's third demand, shown on the library: two batches that
 //! differ only in inline data of OBJECTs passed get the same answers and leave the
-//! same bytes. Recordings are in `recordings`.
+//! same bytes, on either chip; where the number names no chip, any two of one length.
+//! Recordings are in `recordings`.
 
+use super::chips::Chips;
 use super::order::Lent;
-use super::{print_input, Faults, Plan, Report, Tally};
+use super::{print_input, Faults, Plan, Report};
 use crate::ffi;
 use crate::generate::isolation::{random_case, sweep, Pair};
 use crate::guard::Cell;
@@ -52,38 +54,40 @@ struct Numbers {
 
 /// How often pairs that differ got each number; each must be reached.
 struct Tallies {
-    batch_dwords: Tally,
-    batch_bytes: Tally,
-    order_dwords: Tally,
-    order_bytes: Tally,
+    batch_dwords: Chips,
+    batch_bytes: Chips,
+    order_dwords: Chips,
+    order_bytes: Chips,
 }
 
 impl Tallies {
     fn new() -> Self {
-        let of_run = || (0..=10).chain(20..=25);
+        let of_run = (0..=10).chain(20..=25);
         Tallies {
-            batch_dwords: Tally::new("batch check over dwords, differing pairs", 0..=10),
-            batch_bytes: Tally::new(
+            batch_dwords: Chips::new("batch check over dwords, differing pairs", 0..=10),
+            batch_bytes: Chips::new(
                 "batch check over bytes, differing pairs",
                 (0..=10).chain([17]),
             ),
-            order_dwords: Tally::new("order check over dwords, differing pairs", of_run()),
-            order_bytes: Tally::new("order check over bytes, differing pairs", of_run())
+            order_dwords: Chips::new("order check over dwords, differing pairs", of_run.clone()),
+            order_bytes: Chips::new("order check over bytes, differing pairs", of_run)
                 .and(17, "of the batch")
                 .and(17, "of the run"),
         }
     }
 
     fn count(&mut self, pair: &Pair, numbers: Numbers) {
-        self.batch_dwords.count(numbers.batch_dwords);
-        self.batch_bytes.count(numbers.batch_bytes);
-        self.order_dwords.count(numbers.order_dwords);
+        let chip = pair.first.batch.chip;
+        self.batch_dwords.of(chip).count(numbers.batch_dwords);
+        self.batch_bytes.of(chip).count(numbers.batch_bytes);
+        self.order_dwords.of(chip).count(numbers.order_dwords);
         let of = match (numbers.order_bytes, pair.first.batch.tail.len()) {
             (17, 0) => "of the run",
             (17, _) => "of the batch",
             _ => "",
         };
-        self.order_bytes.count_of(numbers.order_bytes, of);
+        let tally = self.order_bytes.of(chip);
+        tally.count_of(numbers.order_bytes, of);
     }
 
     fn print(&self, report: &mut Report) {
@@ -97,13 +101,15 @@ impl Tallies {
 /// Both batches through every entry.
 fn compare(pair: &Pair, random: &mut Random) -> Result<Numbers, String> {
     let capacity = pair.first.batch.capacity;
+    let chip = pair.first.batch.chip;
 
     let lent = Both::new(Lent::dwords(&pair.first, random), &pair.second);
     let batch_dwords = lent.alike("batch check over dwords", |lent| {
-        ffi::check_batch_dwords(lent.batch.lent(), capacity, lent.records.lent_mut())
+        ffi::check_batch_dwords(chip, lent.batch.lent(), capacity, lent.records.lent_mut())
     })?;
     let order_dwords = lent.alike("order check over dwords", |lent| {
         ffi::check_order_dwords(
+            chip,
             lent.batch.lent(),
             capacity,
             lent.run.lent(),
@@ -114,10 +120,11 @@ fn compare(pair: &Pair, random: &mut Random) -> Result<Numbers, String> {
 
     let lent = Both::new(Lent::bytes(&pair.first, random), &pair.second_bytes());
     let batch_bytes = lent.alike("batch check over bytes", |lent| {
-        ffi::check_batch(lent.batch.lent(), capacity, lent.records.lent_mut())
+        ffi::check_batch(chip, lent.batch.lent(), capacity, lent.records.lent_mut())
     })?;
     let order_bytes = lent.alike("order check over bytes", |lent| {
         ffi::check_order(
+            chip,
             lent.batch.lent(),
             capacity,
             lent.run.lent(),
@@ -190,8 +197,9 @@ impl<T: Cell> Both<T> {
 fn describe(plan: &Plan, index: u64, pair: &Pair, difference: &str) -> String {
     let first = &pair.first.batch;
     let mut text = format!(
-        "{}: {} dwords, {} bytes more, capacity {}, {} differ\n  {difference}",
+        "{}: chip {}, {} dwords, {} bytes more, capacity {}, {} differ\n  {difference}",
         plan.again(index),
+        first.chip,
         first.batch.len(),
         first.tail.len(),
         first.capacity,

@@ -1,70 +1,108 @@
-//! The listing program that MPL_LIST names, against the second implementation's
-//! listing: all that it prints, byte by byte. And its isolation: it prints the same
-//! for an input that differs only in inline data passed.
+//! The listing programs, Gen7's that MPL_LIST names and Gen6's that MPL_LIST6 names,
+//! against the second implementation's listing: all that they print, byte by byte. And
+//! their isolation: they print the same for an input that differs only in inline data
+//! passed.
 
 use super::{Plan, Report, Tally};
 use crate::generate::isolation::other_input;
 use crate::generate::listing::{random_case, sweep};
-use crate::listing::{listing, CAPACITY, NAMES};
+use crate::listing::{listing, NAMES};
 use std::ffi::OsString;
 use std::io::{ErrorKind, Write};
 use std::process::{Command, Output, Stdio};
 
 pub fn run(plan: &Plan, report: &mut Report) {
-    let Some(program) = std::env::var_os("MPL_LIST") else {
-        return report.case(Err("MPL_LIST names no listing program".into()));
-    };
-    // The program lends room for every record, so that 10 never occurs.
-    let reachable = || (0..=9).chain([17]);
-    let mut numbers = Tally::new("listing program", reachable());
-    let mut kinds = Tally::new("commands listed", []);
-    for (kind, name) in (0..).zip(NAMES) {
-        kinds = kinds.and(kind, name);
+    for (chip, variable) in [(7, "MPL_LIST"), (6, "MPL_LIST6")] {
+        match std::env::var_os(variable) {
+            Some(path) => Program { chip, path }.run(plan, report),
+            None => report.case(Err(format!("{variable} names no listing program"))),
+        }
     }
-    let mut pairs = Tally::new("listing program, differing pairs", reachable());
-    plan.each(&sweep(plan.seed), random_case, |index, input, random| {
-        let outcome = compare(&program, input).and_then(|text| {
-            count(&text, &mut numbers, &mut kinds);
-            let other = other_input(random, input, CAPACITY);
-            if other != *input {
-                pairs.count(number(&text));
-                alike(&program, &text, &other)?;
-            }
-            Ok(())
+}
+
+/// A chip's listing program.
+struct Program {
+    chip: u32,
+    path: OsString,
+}
+
+impl Program {
+    fn run(&self, plan: &Plan, report: &mut Report) {
+        let chip = self.chip;
+        // The program lends room for every record, so that 10 never occurs.
+        let reachable = || (0..=9).chain([17]);
+        let name = format!("listing program, Gen{chip}");
+        let mut numbers = Tally::new(name.clone(), reachable());
+        let mut kinds = Tally::new(format!("commands listed, Gen{chip}"), []);
+        for (kind, name) in (0..).zip(names(chip)) {
+            kinds = kinds.and(kind, name);
+        }
+        let mut pairs = Tally::new(format!("{name}, differing pairs"), reachable());
+        let fixed = sweep(plan.seed, chip);
+        let random_case = |random: &mut _| random_case(random, chip);
+        plan.each(&fixed, random_case, |index, input, random| {
+            let outcome = self.compare(input).and_then(|text| {
+                count(&text, &mut numbers, &mut kinds);
+                let other = other_input(random, chip, input);
+                if other != *input {
+                    pairs.count(number(&text));
+                    self.alike(&text, &other)?;
+                }
+                Ok(())
+            });
+            report.case(outcome.map_err(|found| self.describe(plan, index, input, &found)));
         });
-        report.case(outcome.map_err(|found| describe(plan, index, input, &found)));
-    });
-    if plan.only.is_none() {
-        numbers.print(report);
-        kinds.print(report);
-        pairs.print(report);
+        if plan.only.is_none() {
+            numbers.print(report);
+            kinds.print(report);
+            pairs.print(report);
+        }
+    }
+
+    /// Gives the common text.
+    fn compare(&self, input: &[u8]) -> Result<String, String> {
+        let by_program = print(&self.path, input)?;
+        let by_second = listing(self.chip, input);
+        if by_program == by_second {
+            return Ok(String::from_utf8_lossy(&by_second).into_owned());
+        }
+        Err(format!(
+            "program prints {:?}\n  second prints  {:?}",
+            String::from_utf8_lossy(&by_program),
+            String::from_utf8_lossy(&by_second),
+        ))
+    }
+
+    /// The program prints the same text for the other input of a pair.
+    fn alike(&self, text: &str, other: &[u8]) -> Result<(), String> {
+        let printed = print(&self.path, other)?;
+        if printed == text.as_bytes() {
+            return Ok(());
+        }
+        let printed = String::from_utf8_lossy(&printed);
+        let mut found = format!("program prints {text:?}\n  and {printed:?} for other inline data");
+        super::print_input(&mut found, "other", other);
+        Err(found)
+    }
+
+    fn describe(&self, plan: &Plan, index: u64, input: &[u8], difference: &str) -> String {
+        let mut text = format!(
+            "{}: Gen{}, {} bytes\n  {difference}",
+            plan.again(index),
+            self.chip,
+            input.len()
+        );
+        super::print_input(&mut text, "input", input);
+        text
     }
 }
 
-/// Gives the common text.
-fn compare(program: &OsString, input: &[u8]) -> Result<String, String> {
-    let by_program = print(program, input)?;
-    let by_second = listing(input);
-    if by_program == by_second {
-        return Ok(String::from_utf8_lossy(&by_second).into_owned());
+/// The names of the chip's kinds; the last is Gen6's own.
+fn names(chip: u32) -> &'static [&'static str] {
+    match chip {
+        6 => &NAMES,
+        _ => &NAMES[..NAMES.len() - 1],
     }
-    Err(format!(
-        "program prints {:?}\n  second prints  {:?}",
-        String::from_utf8_lossy(&by_program),
-        String::from_utf8_lossy(&by_second),
-    ))
-}
-
-/// The program prints the same text for the other input of a pair.
-fn alike(program: &OsString, text: &str, other: &[u8]) -> Result<(), String> {
-    let printed = print(program, other)?;
-    if printed == text.as_bytes() {
-        return Ok(());
-    }
-    let printed = String::from_utf8_lossy(&printed);
-    let mut found = format!("program prints {text:?}\n  and {printed:?} for other inline data");
-    super::print_input(&mut found, "other", other);
-    Err(found)
 }
 
 /// What the program prints. The text is shorter than a pipe, so it never waits
@@ -110,14 +148,4 @@ fn number(text: &str) -> u64 {
         (Some("refused"), Some(number)) => number.parse().expect("a number"),
         _ => 0,
     }
-}
-
-fn describe(plan: &Plan, index: u64, input: &[u8], difference: &str) -> String {
-    let mut text = format!(
-        "{}: {} bytes\n  {difference}",
-        plan.again(index),
-        input.len()
-    );
-    super::print_input(&mut text, "input", input);
-    text
 }

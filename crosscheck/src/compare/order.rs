@@ -1,9 +1,11 @@
 //! The order check: library against second implementation, over dwords and over
 //! bytes.
 
-use super::{print_input, Faults, Plan, Report, Tally};
-use crate::batch::{self, END, RECORD};
+use super::chips::{may_differ, Chips, OnBoth};
+use super::{print_input, Faults, Plan, Report};
+use crate::batch::{self, known, END, RECORD};
 use crate::ffi;
+use crate::generate::batch::other_chip;
 use crate::generate::order::{random_case, sweep, Case};
 use crate::guard::{Cell, Guarded};
 use crate::order::{self, Answer};
@@ -20,27 +22,34 @@ pub(super) fn each(
     fixed: &[Case],
     random_case: fn(&mut Random) -> Case,
 ) {
-    let numbers = || (0..=10).chain(20..=25);
-    let mut dwords = Tally::new("order check over dwords", numbers());
-    let mut bytes = Tally::new("order check over bytes", numbers())
-        .and(17, "of the batch")
-        .and(17, "of the run");
+    let numbers = (0..=10).chain(20..=25);
+    let mut tallies = Tallies {
+        dwords: Chips::new("order check over dwords", numbers.clone()),
+        bytes: Chips::new("order check over bytes", numbers)
+            .and(17, "of the batch")
+            .and(17, "of the run"),
+        on_both: OnBoth::default(),
+    };
     plan.each(fixed, random_case, |index, case, random| {
-        let outcome = compare(case, random, &mut dwords, &mut bytes);
+        let outcome = compare(case, random, &mut tallies);
         report.case(outcome.map_err(|found| describe(plan, index, case, &found)));
     });
     if plan.only.is_none() {
-        dwords.print(report);
-        bytes.print(report);
+        tallies.dwords.print(report);
+        tallies.bytes.print(report);
+        tallies.on_both.print(report);
     }
 }
 
-fn compare(
-    case: &Case,
-    random: &mut Random,
-    dwords: &mut Tally,
-    bytes: &mut Tally,
-) -> Result<(), String> {
+/// What the cases reached.
+struct Tallies {
+    dwords: Chips,
+    bytes: Chips,
+    on_both: OnBoth,
+}
+
+fn compare(case: &Case, random: &mut Random, tallies: &mut Tallies) -> Result<(), String> {
+    let chip = case.batch.chip;
     let lent = Lent::dwords(case, random);
     let entry = Entry {
         name: "dwords",
@@ -49,8 +58,11 @@ fn compare(
         records: batch::check,
         record: RECORD,
     };
-    let over_dwords = entry.compare(&lent, case.batch.capacity)?;
-    dwords.count(over_dwords.number);
+    let (over_dwords, left) = entry.compare(case, &lent)?;
+    tallies.dwords.of(chip).count(over_dwords.number);
+    if passed(over_dwords) && entry.one_reading(case, &lent, over_dwords, &left)? {
+        tallies.on_both.count();
+    }
 
     let lent = Lent::bytes(case, random);
     let entry = Entry {
@@ -60,10 +72,11 @@ fn compare(
         records: batch::check_bytes,
         record: 4 * RECORD,
     };
-    let over_bytes = entry.compare(&lent, case.batch.capacity)?;
+    let (over_bytes, _) = entry.compare(case, &lent)?;
 
     // The two entries follow the same rules but for 17, the batch's before the run's.
     let (of, expected) = match (case.batch.tail.len(), case.run_tail.len()) {
+        _ if !known(chip) => ("", over_dwords),
         (0, 0) => ("", over_dwords),
         (0, _) => ("of the run", Answer::new(17, case.run.len())),
         _ => ("of the batch", Answer::new(17, case.batch.batch.len())),
@@ -73,8 +86,13 @@ fn compare(
             "the entries disagree: dwords {over_dwords:?}, bytes {over_bytes:?}"
         ));
     }
-    bytes.count_of(over_bytes.number, of);
+    tallies.bytes.of(chip).count_of(over_bytes.number, of);
     Ok(())
+}
+
+/// Whether the batch passed, and the run was looked at.
+fn passed(answer: Answer) -> bool {
+    matches!(answer.number, 0 | 21..=25)
 }
 
 /// All that is lent for one call.
@@ -115,23 +133,25 @@ fn next_event(case: &Case, random: &mut Random) -> u32 {
     random.below(2 * case.states + 1) as u32
 }
 
-type Check<T> = fn(&[T], u32, &[T], &mut [T], &mut [u8]) -> Answer;
+type Check<T> = fn(u32, &[T], u32, &[T], &mut [T], &mut [u8]) -> Answer;
 
 struct Entry<T> {
     name: &'static str,
     library: Check<T>,
     second: Check<T>,
     /// The batch check that fills the records.
-    records: fn(&[T], u32, &mut [T]) -> batch::Answer,
+    records: fn(u32, &[T], u32, &mut [T]) -> batch::Answer,
     /// Cells in a record.
     record: usize,
 }
 
 impl<T: Cell> Entry<T> {
-    /// Both implementations over copies of the same buffers; gives the common answer.
-    fn compare(&self, lent: &Lent<T>, capacity: u32) -> Result<Answer, String> {
-        let (library, by_library) = Self::call(self.library, lent, capacity);
-        let (second, by_second) = Self::call(self.second, lent, capacity);
+    /// Both implementations over copies of the same buffers; gives the common answer and
+    /// what is left.
+    fn compare(&self, case: &Case, lent: &Lent<T>) -> Result<(Answer, Lent<T>), String> {
+        let chip = case.batch.chip;
+        let (library, by_library) = Self::call(self.library, chip, case, lent);
+        let (second, by_second) = Self::call(self.second, chip, case, lent);
         let mut faults = Faults::default();
         if library != second {
             faults.add("answers", "differ");
@@ -144,7 +164,7 @@ impl<T: Cell> Entry<T> {
             "states, library against second, at",
             by_library.states.difference(&by_second.states),
         );
-        let expected = self.expected(second, lent, capacity);
+        let expected = self.expected(second, case, lent);
         for (side, name) in [(&by_library, "library"), (&by_second, "second")] {
             faults.difference(
                 &format!("{name} changed the batch at"),
@@ -167,7 +187,7 @@ impl<T: Cell> Entry<T> {
             }
         }
         if faults.0.is_empty() {
-            return Ok(library);
+            return Ok((library, by_library));
         }
         Err(format!(
             "over {}, {} lent for records, {} for states\n  library {library:?}\n  second  {second:?}{}",
@@ -178,11 +198,38 @@ impl<T: Cell> Entry<T> {
         ))
     }
 
-    fn call(check: Check<T>, lent: &Lent<T>, capacity: u32) -> (Answer, Lent<T>) {
+    /// A batch that the chip accepts is read alike by the other one, where that accepts
+    /// it too, and the run ends alike: then true.
+    fn one_reading(
+        &self,
+        case: &Case,
+        lent: &Lent<T>,
+        answer: Answer,
+        left: &Lent<T>,
+    ) -> Result<bool, String> {
+        let (by_other, other_left) =
+            Self::call(self.library, other_chip(case.batch.chip), case, lent);
+        if may_differ(by_other.number) {
+            return Ok(false);
+        }
+        let mut faults = Faults::default();
+        if by_other != answer {
+            faults.add("answers", &format!("{answer:?} against {by_other:?}"));
+        }
+        faults.difference("records", left.records.difference(&other_left.records));
+        faults.difference("states", left.states.difference(&other_left.states));
+        match faults.0.is_empty() {
+            true => Ok(true),
+            false => Err(format!("the library on the other chip:{}", faults.0)),
+        }
+    }
+
+    fn call(check: Check<T>, chip: u32, case: &Case, lent: &Lent<T>) -> (Answer, Lent<T>) {
         let mut left = lent.clone();
         let answer = check(
+            chip,
             left.batch.lent(),
-            capacity,
+            case.batch.capacity,
             left.run.lent(),
             left.records.lent_mut(),
             left.states.lent_mut(),
@@ -191,12 +238,17 @@ impl<T: Cell> Entry<T> {
     }
 
     /// What must be found in the records, and how many states may differ.
-    fn expected(&self, answer: Answer, lent: &Lent<T>, capacity: u32) -> Expected<T> {
+    fn expected(&self, answer: Answer, case: &Case, lent: &Lent<T>) -> Expected<T> {
         let mut records = lent.records.clone();
         let mut objects = 0;
-        if matches!(answer.number, 0 | 21..=25) {
-            let filled = (self.records)(lent.batch.lent(), capacity, records.lent_mut());
-            let filled = &records.lent()[..filled.commands as usize * self.record];
+        if passed(answer) {
+            let batch::Answer { commands, .. } = (self.records)(
+                case.batch.chip,
+                lent.batch.lent(),
+                case.batch.capacity,
+                records.lent_mut(),
+            );
+            let filled = &records.lent()[..commands as usize * self.record];
             let kinds = filled.chunks(self.record).map(|record| record[0]);
             objects = kinds.filter(|&kind| kind == T::from(7)).count();
         }
@@ -211,8 +263,9 @@ struct Expected<T> {
 
 fn describe(plan: &Plan, index: u64, case: &Case, difference: &str) -> String {
     let mut text = format!(
-        "{}: {} dwords, {} bytes more, capacity {}, {} events, {} bytes more\n  {difference}",
+        "{}: chip {}, {} dwords, {} bytes more, capacity {}, {} events, {} bytes more\n  {difference}",
         plan.again(index),
+        case.batch.chip,
         case.batch.batch.len(),
         case.batch.tail.len(),
         case.batch.capacity,

@@ -4,6 +4,7 @@ use crate::order::Answer;
 
 extern "C" {
     fn mpl_check_order(
+        chip: u32,
         batch: *const u8,
         batch_len: usize,
         capacity: u32,
@@ -16,6 +17,7 @@ extern "C" {
     ) -> Answer;
 
     fn mpl_check_order_dwords(
+        chip: u32,
         batch: *const u32,
         batch_len: usize,
         capacity: u32,
@@ -30,6 +32,7 @@ extern "C" {
 
 /// The order check over little-endian bytes.
 pub fn check_order(
+    chip: u32,
     batch: &[u8],
     capacity: u32,
     run: &[u8],
@@ -40,6 +43,7 @@ pub fn check_order(
     // pointer is never null and is aligned, also at length 0.
     unsafe {
         mpl_check_order(
+            chip,
             batch.as_ptr(),
             batch.len(),
             capacity,
@@ -55,6 +59,7 @@ pub fn check_order(
 
 /// The order check over dwords.
 pub fn check_order_dwords(
+    chip: u32,
     batch: &[u32],
     capacity: u32,
     run: &[u32],
@@ -64,6 +69,7 @@ pub fn check_order_dwords(
     // SAFETY: as above; the lengths are in dwords, for states in bytes.
     unsafe {
         mpl_check_order_dwords(
+            chip,
             batch.as_ptr(),
             batch.len(),
             capacity,

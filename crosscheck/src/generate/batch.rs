@@ -2,13 +2,22 @@
 //! random ones, valid, damaged or junk.
 
 use super::bytes;
-use crate::batch::{CURBE, DESCRIPTOR, END, FLUSH, LIMIT, NOOP, OBJECT, RECORD, STATE_FLUSH, VFE};
-use crate::masks;
+use crate::batch::{
+    known, CURBE, DESCRIPTOR, END, FLUSH, GATEWAY, LIMIT, NOOP, OBJECT, RECORD, STATE_FLUSH, VFE,
+};
+use crate::masks::{self, KINDS};
 use crate::random::Random;
+
+/// The chips.
+pub const CHIPS: [u32; 2] = [6, 7];
+
+/// Numbers that name no chip.
+pub const NO_CHIPS: [u32; 4] = [0, 5, 8, u32::MAX];
 
 /// What is lent to both entries.
 #[derive(Clone)]
 pub struct Case {
+    pub chip: u32,
     pub batch: Vec<u32>,
     /// Bytes after the last whole dword, for the byte entry.
     pub tail: Vec<u8>,
@@ -29,6 +38,10 @@ impl Case {
     }
 }
 
+/// What a VFE asks for: entries, entry size and CURBE size.
+#[derive(Clone, Copy)]
+pub(super) struct Rows(pub u32, pub u32, pub u32);
+
 /// A command by itself; the kind is kept when its header is damaged.
 #[derive(Clone)]
 pub(super) struct Command {
@@ -37,7 +50,7 @@ pub(super) struct Command {
 }
 
 /// The header of each kind with its shortest length, by kind.
-const HEADERS: [u32; 8] = [
+const HEADERS: [u32; KINDS] = [
     NOOP,
     FLUSH,
     END,
@@ -46,10 +59,11 @@ const HEADERS: [u32; 8] = [
     DESCRIPTOR << 16 | 2,
     STATE_FLUSH << 16,
     OBJECT << 16 | 4,
+    GATEWAY << 16,
 ];
 
 /// Dwords that rules may look at, by kind.
-const FIXED: [usize; 8] = [1, 1, 1, 8, 4, 4, 2, 6];
+const FIXED: [usize; KINDS] = [1, 1, 1, 8, 4, 4, 2, 6, 2];
 
 /// Largest length that 17 bits hold in whole rows, in rows.
 const ROWS_IN_17_BITS: u32 = 4095;
@@ -62,17 +76,18 @@ impl Command {
         Command { kind, words }
     }
 
-    /// Random bits wherever the kind's masks leave them free.
-    pub(super) fn random(random: &mut Random, kind: usize) -> Self {
+    /// Random bits wherever the chip's masks for the kind leave them free.
+    pub(super) fn random(random: &mut Random, chip: u32, kind: usize) -> Self {
         let mut command = Command::plain(kind);
         for dword in 1..FIXED[kind] {
-            command.words[dword] = random.word() & !masks::BY_KIND[kind][dword];
+            command.words[dword] = random.word() & !masks::of(chip)[kind][dword];
         }
         command
     }
 
-    pub(super) fn vfe(random: &mut Random, entries: u32, entry_size: u32, curbe_size: u32) -> Self {
-        let mut command = Command::random(random, 3);
+    pub(super) fn vfe(random: &mut Random, chip: u32, rows: Rows) -> Self {
+        let Rows(entries, entry_size, curbe_size) = rows;
+        let mut command = Command::random(random, chip, 3);
         command.words[2] = command.words[2] & 0xffff_00ff | entries << 8;
         command.words[4] = entry_size << 16 | curbe_size;
         command
@@ -86,8 +101,8 @@ impl Command {
         command
     }
 
-    pub(super) fn object(random: &mut Random, index: u32, inline: usize) -> Self {
-        let mut command = Command::random(random, 7);
+    pub(super) fn object(random: &mut Random, chip: u32, index: u32, inline: usize) -> Self {
+        let mut command = Command::random(random, chip, 7);
         command.words[0] += inline as u32;
         command.words[1] = command.words[1] & !0x3f | index;
         command.words.extend((0..inline).map(|_| plausible(random)));
@@ -133,6 +148,7 @@ pub(super) fn plausible(random: &mut Random) -> u32 {
 /// A valid batch under construction: its commands, and what the order rules remember.
 #[derive(Default)]
 struct Draft {
+    chip: u32,
     /// Rows that a VFE may ask for.
     most_rows: u32,
     commands: Vec<Command>,
@@ -155,9 +171,11 @@ enum Mix {
 }
 
 impl Draft {
-    /// A valid batch of exactly `dwords` dwords, at least 1, for a capacity of `most_rows`.
-    fn valid(random: &mut Random, mix: Mix, dwords: usize, most_rows: u32) -> Self {
+    /// A batch of exactly `dwords` dwords, at least 1, that is valid on the chip for a
+    /// capacity of `most_rows`.
+    fn valid(random: &mut Random, chip: u32, mix: Mix, dwords: usize, most_rows: u32) -> Self {
         let mut draft = Draft {
+            chip,
             most_rows,
             ..Draft::default()
         };
@@ -168,7 +186,7 @@ impl Draft {
                 Mix::Objects(inline) => Some(draft.next_object(random, room.min(6 + inline))),
                 Mix::Idle => {
                     let kind = random.pick(&[0, 1, 6]);
-                    Some(Command::random(random, kind))
+                    Some(Command::random(random, chip, kind))
                 }
             };
             match command {
@@ -192,23 +210,23 @@ impl Draft {
             7 => self.objects = true,
             _ => {}
         }
-        self.in_use |= matches!(command.kind, 3 | 4 | 5 | 7);
+        self.in_use |= matches!(command.kind, 3 | 4 | 5 | 7 | 8);
         self.dwords += command.words.len();
         self.commands.push(command);
     }
 
     /// A command that the order rules allow here, or none.
     fn any(&self, random: &mut Random, room: usize) -> Option<Command> {
-        match random.pick(&[0, 1, 1, 3, 3, 4, 4, 5, 5, 6, 6, 7, 7, 7, 7, 7]) {
+        match random.pick(kinds(self.chip)) {
             3 if self.in_use => Some(Command::plain(1)),
-            3 => Some(any_vfe(random, self.most_rows)),
+            3 => Some(any_vfe(random, self.chip, self.most_rows)),
             4 if self.vfe => {
                 let most = self.curbe_size.min(ROWS_IN_17_BITS);
                 let some = random.below(most as usize + 1) as u32;
                 let rows = random.pick(&[0, most, most, some]);
                 Some(Command::load(4, 32 * rows, random.word() & !31))
             }
-            5 if self.objects => Some(Command::random(random, 6)),
+            5 if self.objects => Some(Command::random(random, self.chip, 6)),
             5 if self.vfe => {
                 let some = random.between(1, 64) as u32;
                 let count = random.pick(&[1, 2, 64, some]);
@@ -223,42 +241,48 @@ impl Draft {
                 let last = self.descriptors - 1;
                 let some = random.below(self.descriptors as usize) as u32;
                 let index = random.pick(&[0, last, last, some]);
-                Some(Command::object(
-                    random,
-                    index,
-                    inline.min(room.saturating_sub(6)),
-                ))
+                let inline = inline.min(room.saturating_sub(6));
+                Some(Command::object(random, self.chip, index, inline))
             }
-            4 | 5 | 7 => None,
-            kind => Some(Command::random(random, kind)),
+            8 if self.vfe => Some(Command::random(random, self.chip, 8)),
+            4 | 5 | 7 | 8 => None,
+            kind => Some(Command::random(random, self.chip, kind)),
         }
     }
 
     /// The next command of a batch made of OBJECTs.
     fn next_object(&self, random: &mut Random, room: usize) -> Command {
         match self.commands.len() {
-            0 => any_vfe(random, self.most_rows),
+            0 => any_vfe(random, self.chip, self.most_rows),
             _ if !self.vfe => Command::plain(0),
             1 => Command::load(5, 32 * random.between(1, 64) as u32, 0x1000),
             _ if self.descriptors == 0 => Command::plain(0),
             _ => {
                 let index = random.below(self.descriptors as usize) as u32;
                 let inline = random.below(room.saturating_sub(6) + 1);
-                Command::object(random, index, inline)
+                Command::object(random, self.chip, index, inline)
             }
         }
     }
 }
 
+/// The chip's kinds, as often as each is drawn.
+fn kinds(chip: u32) -> &'static [usize] {
+    match chip {
+        6 => &[0, 1, 1, 3, 3, 4, 4, 5, 5, 6, 6, 7, 7, 7, 7, 7, 8, 8, 8],
+        _ => &[0, 1, 1, 3, 3, 4, 4, 5, 5, 6, 6, 7, 7, 7, 7, 7],
+    }
+}
+
 /// Drawn again until it asks for no more than `most_rows`.
-fn any_vfe(random: &mut Random, most_rows: u32) -> Command {
+fn any_vfe(random: &mut Random, chip: u32, most_rows: u32) -> Command {
     loop {
         let wide = random.below(65_536) as u32;
         let small = random.below(100) as u32;
         let entries = random.pick(&[0, 1, 7, 64, 255, small]);
         let entry_size = random.pick(&[0, 1, 2, small, wide, 65_535]);
         let curbe_size = random.pick(&[0, 1, 4, small, 2016, wide, 65_535]);
-        let vfe = Command::vfe(random, entries, entry_size, curbe_size);
+        let vfe = Command::vfe(random, chip, Rows(entries, entry_size, curbe_size));
         if vfe.rows() <= most_rows {
             return vfe;
         }
@@ -277,10 +301,25 @@ pub(super) fn flat(commands: &[Command]) -> Vec<u32> {
         .collect()
 }
 
-/// A valid batch of exactly so many dwords, of all kinds, that asks for at most
-/// `most_rows`.
-pub fn mixed(dwords: usize, most_rows: u32) -> Vec<u32> {
-    flat(&Draft::valid(&mut Random::new(3), Mix::All, dwords, most_rows).commands)
+/// A valid batch of exactly so many dwords, of all the chip's kinds, that asks for at
+/// most `most_rows`.
+pub fn mixed(chip: u32, dwords: usize, most_rows: u32) -> Vec<u32> {
+    flat(&Draft::valid(&mut Random::new(3), chip, Mix::All, dwords, most_rows).commands)
+}
+
+/// The chip that a chip is not.
+pub fn other_chip(chip: u32) -> u32 {
+    13 - chip
+}
+
+/// The chip that a case made for one of them names: that one, mostly.
+pub(super) fn any_chip(random: &mut Random, chip: u32) -> u32 {
+    match random.below(48) {
+        0..=3 => other_chip(chip),
+        4 => random.pick(&NO_CHIPS),
+        5 => chip ^ 1 << random.below(32),
+        _ => chip,
+    }
 }
 
 /// A capacity on either side of `rows`, mostly enough.
@@ -296,7 +335,7 @@ fn capacity(random: &mut Random, rows: u32) -> u32 {
 }
 
 /// Lends records for about `commands` commands, and odd tails to the byte entry.
-fn lend(random: &mut Random, batch: Vec<u32>, capacity: u32, commands: usize) -> Case {
+fn lend(random: &mut Random, chip: u32, batch: Vec<u32>, rows: u32, commands: usize) -> Case {
     let exact = RECORD * commands;
     let records = match random.below(16) {
         0 => exact.saturating_sub(1),
@@ -313,9 +352,10 @@ fn lend(random: &mut Random, batch: Vec<u32>, capacity: u32, commands: usize) ->
         0
     };
     Case {
+        chip,
         batch,
         tail: random.bytes(odd),
-        capacity,
+        capacity: rows,
         records,
         records_tail: random.below(4),
     }
@@ -341,50 +381,53 @@ pub fn random_case(random: &mut Random) -> Case {
         0 => large(random),
         _ => size(random),
     };
-    case_of(random, dwords, u32::MAX)
+    let chip = random.pick(&CHIPS);
+    let mut case = case_of(random, chip, dwords, u32::MAX);
+    case.chip = any_chip(random, chip);
+    case
 }
 
-/// A case made from about so many dwords; without damage it passes where
+/// A case made from about so many dwords; without damage it passes on the chip where
 /// `most_rows` are lent.
-pub(super) fn case_of(random: &mut Random, dwords: usize, most_rows: u32) -> Case {
+pub(super) fn case_of(random: &mut Random, chip: u32, dwords: usize, most_rows: u32) -> Case {
     match random.below(1000) {
         0..=250 => {
             let mix = any_mix(random);
-            let draft = Draft::valid(random, mix, dwords, most_rows);
-            finish(random, draft.commands, 0)
+            let draft = Draft::valid(random, chip, mix, dwords, most_rows);
+            finish(random, draft, 0)
         }
         251..=750 => {
             let mix = any_mix(random);
-            let mut commands = Draft::valid(random, mix, dwords, most_rows).commands;
+            let mut draft = Draft::valid(random, chip, mix, dwords, most_rows);
             // One fault mostly; two or more show which comes first.
             let faults = random.pick(&[1, 1, 1, 1, 1, 2, 2, 3, 5]);
             for _ in 0..faults {
-                damage(random, &mut commands);
+                damage(random, chip, &mut draft.commands);
             }
-            finish(random, commands, 0)
+            finish(random, draft, 0)
         }
         751..=800 => {
             // Several faults on one command.
-            let mut commands = Draft::valid(random, Mix::All, dwords, most_rows).commands;
-            let at = random.below(commands.len());
+            let mut draft = Draft::valid(random, chip, Mix::All, dwords, most_rows);
+            let at = random.below(draft.commands.len());
             for _ in 0..random.between(2, 6) {
-                damage_at(random, &mut commands, at);
+                damage_at(random, chip, &mut draft.commands, at);
             }
-            finish(random, commands, 0)
+            finish(random, draft, 0)
         }
         801..=870 => {
             // Cut anywhere: rules 2 and 5.
-            let commands = Draft::valid(random, Mix::All, dwords, most_rows).commands;
+            let draft = Draft::valid(random, chip, Mix::All, dwords, most_rows);
             let cut = random.between(1, dwords);
-            finish(random, commands, cut)
+            finish(random, draft, cut)
         }
         871..=970 => {
             let batch = (0..dwords).map(|_| plausible(random)).collect();
-            junk(random, batch)
+            junk(random, chip, batch)
         }
         _ => {
             let batch = random.words(dwords);
-            junk(random, batch)
+            junk(random, chip, batch)
         }
     }
 }
@@ -398,15 +441,16 @@ fn any_mix(random: &mut Random) -> Mix {
     }
 }
 
-fn junk(random: &mut Random, batch: Vec<u32>) -> Case {
+fn junk(random: &mut Random, chip: u32, batch: Vec<u32>) -> Case {
     let commands = random.below(batch.len() + 1);
     let capacity = random.word() >> random.below(32);
-    lend(random, batch, capacity, commands)
+    lend(random, chip, batch, capacity, commands)
 }
 
 /// Puts the commands together, at times with junk after END, and cuts `cut`
 /// dwords off the end.
-fn finish(random: &mut Random, commands: Vec<Command>, cut: usize) -> Case {
+fn finish(random: &mut Random, draft: Draft, cut: usize) -> Case {
+    let commands = draft.commands;
     let capacity = capacity(random, rows(&commands));
     let mut batch = flat(&commands);
     if cut == 0 && random.one_in(3) {
@@ -414,16 +458,16 @@ fn finish(random: &mut Random, commands: Vec<Command>, cut: usize) -> Case {
         batch.extend((0..after).map(|_| plausible(random)));
     }
     batch.truncate(batch.len().saturating_sub(cut));
-    lend(random, batch, capacity, commands.len())
+    lend(random, draft.chip, batch, capacity, commands.len())
 }
 
 /// One fault somewhere.
-fn damage(random: &mut Random, commands: &mut Vec<Command>) {
+fn damage(random: &mut Random, chip: u32, commands: &mut Vec<Command>) {
     if commands.is_empty() {
         return;
     }
     // A kind first, so that rare kinds are hit as often as common ones.
-    let kind = random.below(8);
+    let kind = random.below(KINDS);
     let of_kind: Vec<usize> = (0..commands.len())
         .filter(|&at| commands[at].kind == kind)
         .collect();
@@ -441,19 +485,20 @@ fn damage(random: &mut Random, commands: &mut Vec<Command>) {
         }
         2 if at + 1 < commands.len() => commands.swap(at, at + 1),
         3 => {
-            let kind = random.below(8);
-            commands.insert(at, Command::random(random, kind));
+            // Any kind, whether the chip has it or not.
+            let kind = random.below(KINDS);
+            commands.insert(at, Command::random(random, chip, kind));
         }
         4 => {
             let kind = random.pick(&[0, 1, 6]);
-            commands[at] = Command::random(random, kind);
+            commands[at] = Command::random(random, chip, kind);
         }
-        _ => damage_at(random, commands, at),
+        _ => damage_at(random, chip, commands, at),
     }
 }
 
 /// One fault in the command at `at`.
-fn damage_at(random: &mut Random, commands: &mut [Command], at: usize) {
+fn damage_at(random: &mut Random, chip: u32, commands: &mut [Command], at: usize) {
     let descriptors = commands[..at]
         .iter()
         .rev()
@@ -470,7 +515,7 @@ fn damage_at(random: &mut Random, commands: &mut [Command], at: usize) {
     match random.below(10) {
         0 | 1 => {
             let dword = random.below(FIXED[kind]);
-            let mask = masks::BY_KIND[kind][dword];
+            let mask = masks::of(chip)[kind][dword];
             let judged: Vec<u32> = (0..32).filter(|bit| mask >> bit & 1 == 1).collect();
             let bit = match judged.len() {
                 0 => random.below(32) as u32,
@@ -526,37 +571,45 @@ fn damage_at(random: &mut Random, commands: &mut [Command], at: usize) {
     }
 }
 
-/// The fixed cases: every rule's boundary on both sides. The seed only fills
-/// fields that no rule looks at, and chooses buffer tails.
+/// The fixed cases: every rule's boundary on both sides, on both chips. The seed only
+/// fills fields that no rule looks at, and chooses buffer tails.
 pub fn sweep(seed: u64) -> Vec<Case> {
-    let mut sweep = Sweep {
-        random: Random::new(seed),
-        cases: Vec::new(),
-    };
-    sweep.single_bits();
-    sweep.headers();
-    sweep.lengths();
-    sweep.slice_ends();
-    sweep.alignment();
-    sweep.orders();
-    sweep.indices();
-    sweep.capacities();
-    sweep.record_buffers();
-    sweep.limits();
-    sweep.cases
+    let mut cases = Vec::new();
+    for chip in CHIPS {
+        let mut sweep = Sweep {
+            chip,
+            random: Random::new(seed),
+            cases,
+        };
+        sweep.single_bits();
+        sweep.headers();
+        sweep.lengths();
+        sweep.slice_ends();
+        sweep.alignment();
+        sweep.orders();
+        sweep.gateway_states();
+        sweep.indices();
+        sweep.capacities();
+        sweep.record_buffers();
+        sweep.limits();
+        sweep.no_chips();
+        cases = sweep.cases;
+    }
+    cases
 }
 
 struct Sweep {
+    chip: u32,
     random: Random,
     cases: Vec<Case>,
 }
 
-/// Every kind once, in an order that passes, with zeros in all other fields.
-pub(super) fn base() -> Vec<Command> {
+/// Every kind of the chip once, in an order that passes, with zeros in all other fields.
+pub(super) fn base(chip: u32) -> Vec<Command> {
     let mut vfe = Command::plain(3);
     vfe.words[2] = 1 << 8;
     vfe.words[4] = 2 << 16 | 4;
-    vec![
+    let mut commands = vec![
         Command::plain(0),
         Command::plain(1),
         vfe,
@@ -564,13 +617,34 @@ pub(super) fn base() -> Vec<Command> {
         Command::load(5, 64, 0x1000),
         Command::plain(7),
         Command::plain(6),
-        Command::plain(2),
-    ]
+    ];
+    if chip == 6 {
+        commands.push(Command::plain(8));
+    }
+    commands.push(Command::plain(2));
+    commands
 }
 
 const BASE_ROWS: u32 = 6;
 
+/// What may stand for a MEDIA_GATEWAY_STATE: other lengths, headers and dwords, too much
+/// of it or too little.
+fn gateway_faults() -> Vec<Vec<u32>> {
+    let header = GATEWAY << 16;
+    let lengths = (0..=8).chain([255, 256, 0x7fff, 0x8000, 0xfffe, 0xffff]);
+    let headers = lengths.map(|length| header | length);
+    let headers = headers.chain((0..32).map(|bit| header ^ 1 << bit));
+    let mut faults: Vec<Vec<u32>> = headers.chain(HEADERS).map(|word| vec![word, 0]).collect();
+    faults.extend((0..32).map(|bit| vec![header, 1 << bit]));
+    faults.extend([vec![header], vec![header, 0, 0], vec![]]);
+    faults
+}
+
 impl Sweep {
+    fn base(&self) -> Vec<Command> {
+        base(self.chip)
+    }
+
     /// Adds a case with room for every record.
     fn add(&mut self, commands: &[Command], capacity: u32) {
         self.add_flat(flat(commands), capacity, commands.len());
@@ -579,6 +653,7 @@ impl Sweep {
     fn add_flat(&mut self, batch: Vec<u32>, capacity: u32, commands: usize) {
         let records_tail = self.random.below(4);
         self.cases.push(Case {
+            chip: self.chip,
             batch,
             tail: Vec::new(),
             capacity,
@@ -589,10 +664,10 @@ impl Sweep {
 
     /// Each bit of each dword of each kind, judged or not (rules 3, 4, 6, 7, 8, 9).
     fn single_bits(&mut self) {
-        for at in 0..base().len() {
-            for dword in 0..base()[at].words.len() {
+        for at in 0..self.base().len() {
+            for dword in 0..self.base()[at].words.len() {
                 for bit in 0..32 {
-                    let mut commands = base();
+                    let mut commands = self.base();
                     commands[at].words[dword] ^= 1 << bit;
                     self.add(&commands, BASE_ROWS);
                     // The next judged dword is wrong as well: the first decides.
@@ -607,10 +682,10 @@ impl Sweep {
 
     /// Headers up to two bits away from each kind's (rules 3 and 4).
     fn headers(&mut self) {
-        for at in 0..base().len() {
+        for at in 0..self.base().len() {
             for one in 0..32 {
                 for other in 0..one {
-                    let mut commands = base();
+                    let mut commands = self.base();
                     commands[at].words[0] ^= 1 << one | 1 << other;
                     self.add(&commands, BASE_ROWS);
                 }
@@ -620,9 +695,9 @@ impl Sweep {
 
     /// Length fields, and for OBJECTs slices one short, exact and one long (rules 4 and 5).
     fn lengths(&mut self) {
-        for at in 2..7 {
+        for at in 2..self.base().len() - 1 {
             for length in (0..=20).chain([255, 256, 504, 505, 65_534, 65_535]) {
-                let mut commands = base();
+                let mut commands = self.base();
                 let header = commands[at].words[0];
                 commands[at].words[0] = header & 0xffff_0000 | length;
                 self.add(&commands, BASE_ROWS);
@@ -631,7 +706,7 @@ impl Sweep {
         for length in [3, 4, 5, 6, 20, 504, 505, 5_000, LIMIT - 22, 65_535] {
             let fits = length.min(LIMIT);
             for held in [fits - 1, fits, fits + 1, fits + 2, fits + 3] {
-                let mut batch = flat(&base()[..5]);
+                let mut batch = flat(&self.base()[..5]);
                 batch.push(OBJECT << 16 | length as u32);
                 batch.extend([0; 5]);
                 batch.resize(18 + held, END);
@@ -642,9 +717,9 @@ impl Sweep {
 
     /// The base cut at every length (rules 2 and 5).
     fn slice_ends(&mut self) {
-        let whole = flat(&base());
+        let whole = flat(&self.base());
         for length in 0..=whole.len() {
-            self.add_flat(whole[..length].to_vec(), BASE_ROWS, 8);
+            self.add_flat(whole[..length].to_vec(), BASE_ROWS, KINDS);
         }
     }
 
@@ -670,7 +745,7 @@ impl Sweep {
         for at in [3, 4] {
             for length in lengths {
                 for address in addresses {
-                    let mut commands = base();
+                    let mut commands = self.base();
                     // Enough CURBE for every length.
                     commands[2].words[4] = 65_535;
                     commands[at].words[2] = length;
@@ -681,13 +756,25 @@ impl Sweep {
         }
     }
 
-    /// Every sequence of up to five commands before END (rule 8).
+    /// Every sequence of up to five commands before END; and of up to three after others
+    /// that let more of them pass (rule 8).
     fn orders(&mut self) {
-        let alphabet: Vec<Command> = base().drain(..7).collect();
-        for length in 0..=5 {
+        self.sequences(&[], 5);
+        // VFE; with a flush; descriptor load and OBJECT; with a flush.
+        for start in [&[2][..], &[2, 1], &[2, 4, 5], &[2, 4, 5, 1]] {
+            let start: Vec<Command> = start.iter().map(|&at| self.base().remove(at)).collect();
+            self.sequences(&start, 3);
+        }
+    }
+
+    /// Every sequence of up to so many commands between a start and END.
+    fn sequences(&mut self, start: &[Command], most: u32) {
+        let mut alphabet = self.base();
+        alphabet.pop();
+        for length in 0..=most {
             for number in 0..alphabet.len().pow(length) {
                 let mut digits = number;
-                let mut commands = Vec::new();
+                let mut commands = start.to_vec();
                 for _ in 0..length {
                     commands.push(alphabet[digits % alphabet.len()].clone());
                     digits /= alphabet.len();
@@ -698,13 +785,52 @@ impl Sweep {
         }
     }
 
+    /// Stretches of MEDIA_GATEWAY_STATE, sound or with a fault in one of them, with and
+    /// without a VFE before and after. On Gen7 their header is 3, whatever its length.
+    fn gateway_states(&mut self) {
+        let faults = gateway_faults();
+        let vfe = || base(6).swap_remove(2);
+        let ends = [vec![], vec![Command::plain(1), vfe()], vec![vfe()]];
+        for count in [1, 2, 3, 4, 9] {
+            let sound = Command::random(&mut self.random, 6, 8);
+            for at in 0..count {
+                for words in &faults {
+                    let mut commands = vec![vfe()];
+                    commands.extend(vec![sound.clone(); count]);
+                    commands[1 + at].words = words.clone();
+                    let end = self.random.below(ends.len());
+                    commands.extend(ends[end].clone());
+                    commands.push(Command::plain(2));
+                    self.add(&commands, BASE_ROWS);
+                }
+            }
+            // No VFE before; the slice ends in the last command, or with it.
+            let stretch = flat(&vec![sound; count]);
+            let begun = [vfe().words, stretch.clone()].concat();
+            for batch in [stretch, begun] {
+                let ended = [&batch[..], &[END]].concat();
+                for batch in [&batch[..batch.len() - 1], &batch, &ended] {
+                    self.add_flat(batch.to_vec(), BASE_ROWS, count + 2);
+                }
+            }
+        }
+        // As many as a batch holds, with room for each record, and for one too few.
+        let mut commands = vec![vfe()];
+        commands.extend(vec![Command::random(&mut self.random, 6, 8); LIMIT / 2 - 5]);
+        commands.extend([Command::plain(0), Command::plain(2)]);
+        for records in [RECORD * commands.len(), RECORD * commands.len() - 1] {
+            self.add(&commands, BASE_ROWS);
+            self.cases.last_mut().expect("just added").records = records;
+        }
+    }
+
     /// An OBJECT's index around the count last loaded, also across a second load and a VFE (rule 8).
     fn indices(&mut self) {
         for count in [1, 2, 31, 32, 33, 63, 64] {
             for index in [0, 1, count - 1, count, count + 1, 62, 63] {
                 for again in [None, Some(1), Some(64), Some(count)] {
                     for flush in [1, 6] {
-                        let mut commands = base();
+                        let mut commands = self.base();
                         commands.truncate(4);
                         commands.push(Command::load(5, 32 * count, 0));
                         if let Some(again) = again {
@@ -713,9 +839,10 @@ impl Sweep {
                         }
                         if flush == 1 {
                             commands.push(Command::plain(1));
-                            commands.push(base().swap_remove(2));
+                            commands.push(self.base().swap_remove(2));
                         }
-                        let object = Command::object(&mut self.random, index & 0x3f, 1);
+                        let index = index & 0x3f;
+                        let object = Command::object(&mut self.random, self.chip, index, 1);
                         commands.push(object);
                         commands.push(Command::plain(2));
                         self.add(&commands, BASE_ROWS);
@@ -730,7 +857,8 @@ impl Sweep {
         for entries in [0, 1, 2, 64, 255] {
             for entry_size in [0, 1, 2, 65_535] {
                 for curbe_size in [0, 1, 4, 4095, 4096, 65_535] {
-                    let vfe = Command::vfe(&mut self.random, entries, entry_size, curbe_size);
+                    let rows = Rows(entries, entry_size, curbe_size);
+                    let vfe = Command::vfe(&mut self.random, self.chip, rows);
                     let rows = vfe.rows();
                     let commands = [vfe, Command::plain(2)];
                     let near = [rows.saturating_sub(1), rows, rows + 1];
@@ -742,11 +870,11 @@ impl Sweep {
         }
         for first in [0, 1, 2, 480, 2016, 4094, 4095, 4096, 65_535] {
             for second in [None, Some(0), Some(3), Some(65_535)] {
-                let mut commands = vec![Command::vfe(&mut self.random, 0, 0, first)];
+                let mut commands = vec![self.vfe_of(first)];
                 if let Some(second) = second {
                     // The later VFE's size is the one in force.
                     commands.push(Command::plain(1));
-                    commands.push(Command::vfe(&mut self.random, 0, 0, second));
+                    commands.push(self.vfe_of(second));
                 }
                 for rows in [first, second.unwrap_or(first)] {
                     for length in [32 * rows, 32 * rows + 32, (32 * rows).wrapping_sub(32)] {
@@ -761,12 +889,18 @@ impl Sweep {
         }
     }
 
-    /// Every length of the record buffer around eight records (rule 10).
+    /// A VFE that asks for a CURBE alone.
+    fn vfe_of(&mut self, curbe_size: u32) -> Command {
+        Command::vfe(&mut self.random, self.chip, Rows(0, 0, curbe_size))
+    }
+
+    /// Every length of the record buffer around what the base needs (rule 10).
     fn record_buffers(&mut self) {
         for records in 0..=RECORD * 10 {
             for records_tail in 0..4 {
                 self.cases.push(Case {
-                    batch: flat(&base()),
+                    chip: self.chip,
+                    batch: flat(&self.base()),
                     tail: Vec::new(),
                     capacity: BASE_ROWS,
                     records,
@@ -788,6 +922,7 @@ impl Sweep {
                     }
                     let tail = self.random.bytes(odd);
                     self.cases.push(Case {
+                        chip: self.chip,
                         batch,
                         tail,
                         capacity: 0,
@@ -799,12 +934,36 @@ impl Sweep {
         }
         for mix in [Mix::All, Mix::Objects(0), Mix::Objects(500), Mix::Idle] {
             for length in [LIMIT - 1, LIMIT, LIMIT + 1] {
-                let draft = Draft::valid(&mut self.random, mix, length, u32::MAX);
+                let draft = Draft::valid(&mut self.random, self.chip, mix, length, u32::MAX);
                 self.add(&draft.commands, u32::MAX);
                 // The record buffer one word short.
                 let short = RECORD * draft.commands.len() - 1;
                 self.add(&draft.commands, u32::MAX);
                 self.cases.last_mut().expect("just added").records = short;
+            }
+        }
+    }
+
+    /// Numbers of no chip, all those one bit away from the chip's among them, before
+    /// every other refusal (rule 18).
+    fn no_chips(&mut self) {
+        let near = (0..32).map(|bit| self.chip ^ 1 << bit);
+        let numbers: Vec<u32> = NO_CHIPS.into_iter().chain(near).collect();
+        for chip in numbers.into_iter().filter(|&chip| !known(chip)) {
+            let whole = flat(&self.base());
+            let long = vec![END; LIMIT + 1];
+            for batch in [&whole[..], &whole[..9], &[], &[1], &long] {
+                for odd in [0, 3] {
+                    let tail = self.random.bytes(odd);
+                    self.cases.push(Case {
+                        chip,
+                        batch: batch.to_vec(),
+                        tail,
+                        capacity: self.random.pick(&[0, BASE_ROWS]),
+                        records: self.random.pick(&[0, 15, RECORD * KINDS]),
+                        records_tail: odd,
+                    });
+                }
             }
         }
     }

@@ -1,8 +1,9 @@
 //! Junk and near-valid inputs: the bytes of other cases, changed without regard to
-//! what they mean, in buffers of any length.
+//! what they mean, in buffers of any length, for any chip.
 
+use super::batch::CHIPS;
 use super::{batch, dwords, order, replay};
-use crate::batch::{END, LIMIT, OBJECT, VFE};
+use crate::batch::{END, GATEWAY, LIMIT, OBJECT, VFE};
 use crate::random::Random;
 
 /// A batch as the batch check's own cases, scenes or nothing in particular have it.
@@ -17,6 +18,7 @@ pub fn batch(random: &mut Random) -> batch::Case {
 }
 
 fn change(random: &mut Random, case: &mut batch::Case) {
+    case.chip = any_chip(random, case.chip);
     let mut bytes = case.bytes();
     mutate(random, &mut bytes, 4);
     (case.batch, case.tail) = dwords(&bytes);
@@ -63,12 +65,13 @@ fn junk_batch(random: &mut Random) -> batch::Case {
         _ => {
             let objects = OBJECT << 16 | random.below(40) as u32;
             let any = random.word();
-            let headers = [VFE << 16 | 6, objects, END, any, 0];
-            repeated(&headers[random.below(4)..], length)
+            let headers = [VFE << 16 | 6, objects, GATEWAY << 16, END, any, 0];
+            repeated(&headers[random.below(5)..], length)
         }
     };
     let (batch, tail) = dwords(&content);
     batch::Case {
+        chip: random.pick(&CHIPS),
         records: random.below(16 * batch.len() + 40),
         batch,
         tail,
@@ -80,6 +83,16 @@ fn junk_batch(random: &mut Random) -> batch::Case {
 fn repeated(dwords: &[u32], length: usize) -> Vec<u8> {
     let bytes = dwords.iter().cycle().flat_map(|dword| dword.to_le_bytes());
     bytes.take(length).collect()
+}
+
+/// As it was, the other one, or any number.
+fn any_chip(random: &mut Random, chip: u32) -> u32 {
+    match random.below(32) {
+        0 => random.word(),
+        1 => random.below(16) as u32,
+        2 => chip ^ 1,
+        _ => chip,
+    }
 }
 
 fn any_capacity(random: &mut Random, capacity: u32) -> u32 {

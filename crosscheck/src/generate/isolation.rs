@@ -1,23 +1,29 @@
 //! Pairs of batches that differ only in inline data of OBJECTs passed in the first,
-//! each with one run and one set of buffers; and, in `recordings`, pairs of recordings.
+//! each with one chip, one run and one set of buffers; and, in `recordings`, pairs of
+//! recordings. Where the number names no chip, the batches differ anywhere.
 
-use super::batch::{plausible, Command};
+use super::batch::{plausible, Command, CHIPS, NO_CHIPS};
 use super::order::{self, Case, Object, Scene, Vfe};
-use super::{bytes, dwords};
-use crate::batch::{passed_inline_data, CURBE, END, FLUSH, LIMIT, NOOP, OBJECT, RECORD, VFE};
+use super::{batch, bytes, dwords};
+use crate::batch::{
+    known, passed_inline_data, CURBE, END, FLUSH, GATEWAY, LIMIT, NOOP, OBJECT, RECORD, VFE,
+};
+use crate::listing::CAPACITY;
 use crate::random::Random;
 
 pub mod recordings;
 
 pub struct Pair {
     pub first: Case,
-    /// Agrees with the first one's batch but for inline data passed there.
+    /// Agrees with the first one's batch but for inline data passed there, if the chip
+    /// is known.
     pub second: Vec<u32>,
 }
 
 impl Pair {
     fn new(first: Case, word: impl FnMut(u32) -> u32) -> Self {
-        let second = redrawn(&first.batch.batch, first.batch.capacity, word);
+        let batch::Case { chip, capacity, .. } = first.batch;
+        let second = redrawn(chip, &first.batch.batch, capacity, word);
         Pair { first, second }
     }
 
@@ -33,19 +39,24 @@ impl Pair {
     }
 }
 
-/// A batch with its passed inline data drawn anew by `word`, from what stands there.
-fn redrawn(batch: &[u32], capacity: u32, mut word: impl FnMut(u32) -> u32) -> Vec<u32> {
+/// A batch with its passed inline data drawn anew by `word`, from what stands there; all
+/// of it, if the chip is not known.
+fn redrawn(chip: u32, batch: &[u32], capacity: u32, mut word: impl FnMut(u32) -> u32) -> Vec<u32> {
+    let parts = match known(chip) {
+        true => passed_inline_data(chip, batch, capacity),
+        false => vec![0..batch.len(); 1],
+    };
     let mut second = batch.to_vec();
-    for at in passed_inline_data(batch, capacity).into_iter().flatten() {
+    for at in parts.into_iter().flatten() {
         second[at] = word(second[at]);
     }
     second
 }
 
-/// The other input of a pair for the listing program: a batch as bytes.
-pub fn other_input(random: &mut Random, input: &[u8], capacity: u32) -> Vec<u8> {
+/// The other input of a pair for the chip's listing program: a batch as bytes.
+pub fn other_input(random: &mut Random, chip: u32, input: &[u8]) -> Vec<u8> {
     let (batch, tail) = dwords(input);
-    let second = redrawn(&batch, capacity, |word| any_other(random, word));
+    let second = redrawn(chip, &batch, CAPACITY, |word| any_other(random, word));
     [bytes(&second), tail].concat()
 }
 
@@ -79,38 +90,55 @@ fn any_other(random: &mut Random, word: u32) -> u32 {
 }
 
 /// What might catch a reader of inline data.
-const CATCHES: [u32; 8] = [
+const CATCHES: [u32; 9] = [
     NOOP,
     FLUSH,
     END,
     VFE << 16 | 6,
     CURBE << 16 | 2,
+    GATEWAY << 16,
     OBJECT << 16 | 4,
     OBJECT << 16 | 0xffff,
     u32::MAX,
 ];
 
 /// The fixed pairs: objects with inline data, then each way in which reading stops,
-/// with each run and each lack of room. The seed fills what no rule looks at.
+/// with each run and each lack of room, on both chips; and numbers of no chip. The seed
+/// fills what no rule looks at.
 pub fn sweep(seed: u64) -> Vec<Pair> {
     let random = &mut Random::new(seed);
     let mut cases = Vec::new();
-    for stalling in [false, true] {
-        for ending in endings() {
-            for run in RUNS {
-                for odd in 0..4 {
-                    let case = ended(random, stalling, &ending, run);
-                    cases.extend(lend(random, case, odd));
+    for chip in CHIPS {
+        for stalling in [false, true] {
+            for ending in endings() {
+                for run in RUNS {
+                    for odd in 0..4 {
+                        let case = ended(random, chip, stalling, &ending, run);
+                        cases.extend(lend(random, case, odd));
+                    }
                 }
             }
         }
+        cases.extend(long(random, chip));
     }
-    cases.extend(long(random));
+    cases.extend(no_chips(&cases));
     cases
         .into_iter()
         .enumerate()
         .map(|(at, case)| Pair::new(case, |_| CATCHES[at % CATCHES.len()]))
         .collect()
+}
+
+/// Some of the cases with numbers of no chip.
+fn no_chips(cases: &[Case]) -> Vec<Case> {
+    let numbers = NO_CHIPS.into_iter().cycle();
+    let some = cases.iter().step_by(23).zip(numbers);
+    some.map(|(case, chip)| {
+        let mut case = case.clone();
+        case.batch.chip = chip;
+        case
+    })
+    .collect()
 }
 
 /// Runs over three objects: whole, in part, and each refusal.
@@ -142,12 +170,13 @@ fn endings() -> Vec<Vec<u32>> {
         fault(5, 2, 1),
         fault(3, 2, 0),
         fault(4, 2, 32 * 5),
+        fault(8, 0, GATEWAY << 16 | 1),
     ]
 }
 
 /// Three objects that wait for the one before, with inline data, then `ending`.
-fn ended(random: &mut Random, stalling: bool, ending: &[u32], run: &[u32]) -> Case {
-    let mut scene = Scene::default();
+fn ended(random: &mut Random, chip: u32, stalling: bool, ending: &[u32], run: &[u32]) -> Case {
+    let mut scene = Scene::new(chip);
     let vfe = Vfe {
         enable: true,
         stalling,
@@ -192,11 +221,11 @@ fn lend(random: &mut Random, case: Case, odd: usize) -> [Case; 3] {
 }
 
 /// Batches around the limit, and one over it; what stands before still counts as passed.
-fn long(random: &mut Random) -> Vec<Case> {
+fn long(random: &mut Random, chip: u32) -> Vec<Case> {
     let mut cases = Vec::new();
     for length in [LIMIT - 1, LIMIT, LIMIT + 1, LIMIT + 5_000] {
         for ending in [&[END][..], &[]] {
-            let mut case = ended(random, false, &[], RUNS[1]);
+            let mut case = ended(random, chip, false, &[], RUNS[1]);
             let end = length - ending.len();
             case.batch.batch.resize(end, NOOP);
             case.batch.batch.extend(ending);

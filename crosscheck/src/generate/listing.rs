@@ -1,14 +1,14 @@
-//! Inputs of the listing program: batches as bytes, valid, damaged or junk, short
-//! and around its limit of length.
+//! Inputs of the listing programs: batches as bytes, valid, damaged or junk, short
+//! and around their limit of length.
 
-use super::batch::{self, flat, Command};
+use super::batch::{self, flat, Command, Rows};
 use super::{bytes, isolation};
 use crate::batch::{END, NOOP};
 use crate::listing::{CAPACITY, MOST};
 use crate::random::Random;
 
-/// One random input; the stream decides which sort.
-pub fn random_case(random: &mut Random) -> Vec<u8> {
+/// One random input; the stream decides which sort. Mostly for the chip's own program.
+pub fn random_case(random: &mut Random, chip: u32) -> Vec<u8> {
     if random.one_in(10) {
         let length = random.below(MOST + 500);
         return random.bytes(length);
@@ -18,21 +18,27 @@ pub fn random_case(random: &mut Random) -> Vec<u8> {
         1 | 2 => random.between(1, 300),
         _ => random.between(1, 60),
     };
-    batch::case_of(random, dwords, CAPACITY).bytes()
+    let of = match random.one_in(12) {
+        true => batch::other_chip(chip),
+        false => chip,
+    };
+    batch::case_of(random, of, dwords, CAPACITY).bytes()
 }
 
-/// The fixed inputs. The seed fills what no rule looks at.
-pub fn sweep(seed: u64) -> Vec<Vec<u8>> {
+/// The fixed inputs of the chip's program. The seed fills what no rule looks at.
+pub fn sweep(seed: u64, chip: u32) -> Vec<Vec<u8>> {
     let mut inputs = limits();
-    inputs.extend(cuts());
-    inputs.extend(single_bits());
-    inputs.extend(capacities(&mut Random::new(seed)));
+    inputs.extend(cuts(chip));
+    inputs.extend(single_bits(chip));
+    inputs.extend(capacities(&mut Random::new(seed), chip));
     // The batch check's own sweep, thinned out.
-    let batches = batch::sweep(seed).into_iter().step_by(299);
+    let batches = batch::sweep(seed).into_iter();
+    let batches = batches.filter(|case| case.chip == chip).step_by(299);
     inputs.extend(batches.map(|case| case.bytes()));
     // Inline data, then each way in which reading stops.
-    let pairs = isolation::sweep(seed).into_iter().step_by(21);
-    inputs.extend(pairs.map(|pair| pair.first.batch.bytes()));
+    let pairs = isolation::sweep(seed).into_iter();
+    let pairs = pairs.filter(|pair| pair.first.batch.chip == chip);
+    inputs.extend(pairs.step_by(21).map(|pair| pair.first.batch.bytes()));
     inputs
 }
 
@@ -55,14 +61,14 @@ fn limits() -> Vec<Vec<u8>> {
 }
 
 /// A batch of every kind, cut at every byte.
-fn cuts() -> impl Iterator<Item = Vec<u8>> {
-    let whole = bytes(&flat(&batch::base()));
+fn cuts(chip: u32) -> impl Iterator<Item = Vec<u8>> {
+    let whole = bytes(&flat(&batch::base(chip)));
     (0..=whole.len()).map(move |length| whole[..length].to_vec())
 }
 
 /// That batch with one bit changed, in every dword.
-fn single_bits() -> impl Iterator<Item = Vec<u8>> {
-    let whole = flat(&batch::base());
+fn single_bits(chip: u32) -> impl Iterator<Item = Vec<u8>> {
+    let whole = flat(&batch::base(chip));
     (0..whole.len()).flat_map(move |at| {
         [0, 8, 31].map(|bit| {
             let mut dwords = whole.clone();
@@ -73,11 +79,11 @@ fn single_bits() -> impl Iterator<Item = Vec<u8>> {
 }
 
 /// Rows asked for against the capacity, by the entries and by the CURBE.
-fn capacities(random: &mut Random) -> Vec<Vec<u8>> {
+fn capacities(random: &mut Random, chip: u32) -> Vec<Vec<u8>> {
     let mut inputs = Vec::new();
     for rows in [0, 1, CAPACITY - 1, CAPACITY, CAPACITY + 1, 65_535] {
         for (entry_size, curbe_size) in [(rows, 0), (0, rows), (rows / 2, rows - rows / 2)] {
-            let vfe = Command::vfe(random, 1, entry_size, curbe_size);
+            let vfe = Command::vfe(random, chip, Rows(1, entry_size, curbe_size));
             inputs.push(bytes(&flat(&[vfe, Command::plain(2)])));
         }
     }

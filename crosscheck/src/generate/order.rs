@@ -1,7 +1,8 @@
 //! Batches and runs to compare the order check on: a fixed sweep along every
 //! rule, and random runs that follow the scoreboard and then break one rule.
 
-use super::{batch, bytes};
+use super::batch::{self, CHIPS};
+use super::bytes;
 use crate::batch::{LIMIT, RECORD};
 use crate::order::{RUNNING, WAITING};
 use crate::random::Random;
@@ -27,11 +28,12 @@ impl Case {
         [bytes(&self.run), self.run_tail.clone()].concat()
     }
 
-    /// Exactly the room that the scene needs.
+    /// Exactly the room that the scene needs, on its chip.
     pub fn new(scene: &Scene, run: Vec<u32>) -> Self {
         let (batch, commands, rows) = scene.batch();
         Case {
             batch: batch::Case {
+                chip: scene.chip(),
                 batch,
                 tail: Vec::new(),
                 capacity: rows,
@@ -81,8 +83,9 @@ pub(super) fn any_batch(random: &mut Random) -> Case {
     }
 }
 
-/// Buffers too short, exact or longer, and odd bytes.
+/// Buffers too short, exact or longer, odd bytes, and at times another chip.
 fn lend(random: &mut Random, mut case: Case) -> Case {
+    case.batch.chip = batch::any_chip(random, case.batch.chip);
     let exact = case.states;
     case.states = match random.below(24) {
         0 => exact.saturating_sub(1),
@@ -156,7 +159,7 @@ fn any_run(random: &mut Random, scene: &Scene) -> Vec<u32> {
 fn long_run(random: &mut Random) -> (Scene, Vec<u32>) {
     let objects = random.between(40, 300);
     let side = random.pick(&[6, 40, 500]);
-    let mut scene = Scene::default();
+    let mut scene = Scene::new(random.pick(&CHIPS));
     let vfe = any_vfe(random);
     scene.vfe(random, vfe);
     for _ in 0..objects {
@@ -237,7 +240,7 @@ fn any_scene(random: &mut Random) -> Scene {
         _ => random.between(1, 10),
     };
     let inline = random.pick(&[0, 0, 1, 4]);
-    let mut scene = Scene::default();
+    let mut scene = Scene::new(random.pick(&CHIPS));
     for _ in 0..random.pick(&[0, 0, 0, 1, 3]) {
         scene.filler(random);
     }
@@ -310,7 +313,8 @@ pub const PICTURE: (i32, i32) = (45, 36);
 fn broken_picture(random: &mut Random) -> Case {
     let layout = random.pick(&[Layout::Raster, Layout::Waves]);
     let stalling = random.one_in(2);
-    let (scene, mut run) = picture(PICTURE.0, PICTURE.1, layout, stalling);
+    let chip = random.pick(&CHIPS);
+    let (scene, mut run) = picture(chip, PICTURE, layout, stalling);
     let at = random.below(run.len() - 1);
     match random.below(5) {
         0 => run.swap(at, at + 1),
@@ -324,26 +328,31 @@ fn broken_picture(random: &mut Random) -> Case {
     Case::new(&scene, run)
 }
 
-/// The fixed cases. The seed fills fields that no rule looks at, and chooses
-/// buffer tails and the runs over refused batches.
+/// The fixed cases, on both chips. The seed fills fields that no rule looks at, and
+/// chooses buffer tails and the runs over refused batches.
 pub fn sweep(seed: u64) -> Vec<Case> {
     let mut sweep = Sweep {
+        chip: 0,
         random: Random::new(seed),
         cases: Vec::new(),
     };
-    sweep.every_delta();
-    sweep.masks();
-    sweep.users();
-    sweep.crowd();
-    sweep.short_runs();
-    sweep.many_commands();
-    sweep.buffers();
-    sweep.pictures();
+    for chip in CHIPS {
+        sweep.chip = chip;
+        sweep.every_delta();
+        sweep.masks();
+        sweep.users();
+        sweep.crowd();
+        sweep.short_runs();
+        sweep.many_commands();
+        sweep.buffers();
+        sweep.pictures();
+    }
     sweep.refused_batches(seed);
     sweep.cases
 }
 
 struct Sweep {
+    chip: u32,
     random: Random,
     cases: Vec<Case>,
 }
@@ -373,7 +382,7 @@ fn block(x: i32, y: i32) -> Object {
 
 impl Sweep {
     fn scene(&mut self, vfe: Vfe, objects: &[Object]) -> Scene {
-        let mut scene = Scene::default();
+        let mut scene = Scene::new(self.chip);
         scene.vfe(&mut self.random, vfe);
         for &object in objects {
             scene.object(&mut self.random, object, 0);
@@ -600,8 +609,8 @@ impl Sweep {
         }
     }
 
-    /// Every length of the state buffer, records too short, odd bytes, and which
-    /// of them comes first (rules 10, 17 and 20).
+    /// Every length of the state buffer, records too short, odd bytes, numbers of no
+    /// chip, and which of them comes first (rules 10, 17, 18 and 20).
     fn buffers(&mut self) {
         let objects: Vec<Object> = (0..20).map(|x| block(x, 0)).collect();
         let scene = self.scene(free_vfe([(-1, 0); 8]), &objects);
@@ -617,16 +626,19 @@ impl Sweep {
             }
         }
         for odd in 0..16 {
-            for fault in 0..5 {
+            for fault in 0..9 {
                 let mut case = Case::new(&scene, vec![0, 3, 9]);
                 case.batch.tail = self.random.bytes(odd % 4);
                 case.run_tail = self.random.bytes(odd / 4);
-                match fault {
+                match fault % 5 {
                     1 => case.batch.batch.resize(LIMIT + 1, 0),
                     2 => case.batch.batch.truncate(8),
                     3 => case.batch.records = 7,
                     4 => case.states = 19,
                     _ => {}
+                }
+                if fault > 4 {
+                    case.batch.chip = batch::NO_CHIPS[fault - 5];
                 }
                 self.cases.push(case);
             }
@@ -636,10 +648,9 @@ impl Sweep {
     /// The picture in both layouts and both types: its whole run, a part of it,
     /// and runs in which a block is still awaited.
     fn pictures(&mut self) {
-        let (width, height) = PICTURE;
         for layout in [Layout::Raster, Layout::Waves] {
             for stalling in [false, true] {
-                let (scene, run) = picture(width, height, layout, stalling);
+                let (scene, run) = picture(self.chip, PICTURE, layout, stalling);
                 self.add(&scene, &run);
                 self.add(&scene, &run[..run.len() / 3]);
                 for block in [1, 44, 45, 46, 700, 1619] {
@@ -665,7 +676,7 @@ impl Sweep {
     /// The batch check's own sweep, thinned out, with runs that may fit.
     fn refused_batches(&mut self, seed: u64) {
         for (index, batch) in batch::sweep(seed).into_iter().enumerate() {
-            if index % 5 == 0 {
+            if index % 11 == 0 {
                 let events = self.random.below(4);
                 let run = junk_run(&mut self.random, 1, events);
                 let odd = self.random.pick(&[0, 0, 0, 1, 2, 3]);

@@ -11,8 +11,15 @@ fn bytes(hex: &str) -> Vec<u8> {
     dwords.flat_map(u32::to_le_bytes).collect()
 }
 
+fn printed_by(chip: u32, input: &[u8]) -> String {
+    String::from_utf8(listing(chip, input)).expect("plain text")
+}
+
+/// By both programs, which must agree.
 fn printed(input: &[u8]) -> String {
-    String::from_utf8(listing(input)).expect("plain text")
+    let [by_6, by_7] = [6, 7].map(|chip| printed_by(chip, input));
+    assert_eq!(by_6, by_7);
+    by_7
 }
 
 fn refused(number: u32, place: u32) -> String {
@@ -38,6 +45,10 @@ fn every_name() {
     let lines = "MPL 1\n0 NOP 1\n1 FLU 1\n2 VFE 8\n10 CUR 4\n14 IDL 4\n18 OBJ 8\n\
                  26 SFL 2\n28 END 1\naccepted 8 29\n";
     assert_eq!(printed(&bytes(batch)), lines);
+    let batch = bytes("70000006 0 0 0 1 0 0 0 70030000 30208 5000000");
+    let lines = "MPL 1\n0 VFE 8\n8 GWS 2\n10 END 1\naccepted 3 11\n";
+    assert_eq!(printed_by(6, &batch), lines);
+    assert_eq!(printed_by(7, &batch), refused(3, 8));
 }
 
 #[test]
@@ -48,13 +59,16 @@ fn every_refusal() {
         ("0 1 5000000", 3, 1),
         ("0 70040001 0 0 5000000", 4, 1),
         ("0 0 70040000", 5, 2),
-        ("70040000 80 5000000", 6, 1),
+        ("70040000 80000000 5000000", 6, 1),
         ("70010002 0 1 0 5000000", 7, 2),
         ("70010002 0 0 1 5000000", 7, 3),
         ("0 70010002 0 0 0 5000000", 8, 1),
     ] {
         assert_eq!(printed(&bytes(batch)), refused(number, place), "{batch}");
     }
+    let batch = bytes("70040000 80 5000000");
+    assert_eq!(printed_by(7, &batch), refused(6, 1));
+    assert_eq!(printed_by(6, &batch).lines().count(), 4);
 }
 
 #[test]

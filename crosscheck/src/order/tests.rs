@@ -1,14 +1,17 @@
 use super::*;
 use crate::batch::END;
+use crate::generate::batch::CHIPS;
 use crate::generate::order::{random_case, sweep, Case, Object, Scene, Vfe};
 use crate::random::Random;
 
 /// Runs both entries and demands that they agree.
 fn run(case: &Case) -> (Answer, Vec<u32>, Vec<u8>) {
+    let chip = case.batch.chip;
     let capacity = case.batch.capacity;
     let mut records = vec![0xa5a5_a5a5; case.batch.records];
     let mut states = vec![9; case.states];
     let answer = check(
+        chip,
         &case.batch.batch,
         capacity,
         &case.run,
@@ -19,6 +22,7 @@ fn run(case: &Case) -> (Answer, Vec<u32>, Vec<u8>) {
         let mut record_bytes = vec![0xa5; case.batch.record_bytes()];
         let mut byte_states = vec![9; case.states];
         let over_bytes = check_bytes(
+            chip,
             &case.batch.bytes(),
             capacity,
             &case.run_bytes(),
@@ -50,21 +54,29 @@ fn at(x: i32, y: i32) -> Object {
     }
 }
 
-fn scene(vfe: Vfe, objects: &[Object]) -> Scene {
-    let random = &mut Random::new(2);
-    let mut scene = Scene::default();
-    scene.vfe(random, vfe);
-    for &object in objects {
-        scene.object(random, object, 1);
-    }
-    scene
+/// On each chip, with other commands between the objects.
+fn scene(vfe: Vfe, objects: &[Object]) -> [Scene; 2] {
+    CHIPS.map(|chip| {
+        let random = &mut Random::new(2);
+        let mut scene = Scene::new(chip);
+        scene.vfe(random, vfe);
+        for &object in objects {
+            (0..4).for_each(|_| scene.filler(random));
+            scene.object(random, object, 1);
+        }
+        scene
+    })
 }
 
-/// The answer's four numbers and the states.
-fn judged(scene: &Scene, events: &[u32]) -> ([u64; 4], Vec<u8>) {
-    let (answer, _, states) = run(&Case::new(scene, events.to_vec()));
-    let numbers = [answer.number, answer.place, answer.object, answer.delta];
-    (numbers, states)
+/// The answer's four numbers and the states, the same on both chips.
+fn judged(scenes: &[Scene; 2], events: &[u32]) -> ([u64; 4], Vec<u8>) {
+    let [on_6, on_7] = scenes.each_ref().map(|scene| {
+        let (answer, _, states) = run(&Case::new(scene, events.to_vec()));
+        let numbers = [answer.number, answer.place, answer.object, answer.delta];
+        (numbers, states)
+    });
+    assert_eq!(on_6, on_7);
+    on_7
 }
 
 #[test]
@@ -141,26 +153,49 @@ fn nobody_waits_across_the_edge() {
 
 #[test]
 fn refusals_change_nothing() {
-    let scene = scene(QUIET, &[at(1, 1), at(2, 2)]);
     let untouched = |case: &Case, expected: Answer| {
         let (answer, records, states) = run(case);
         assert_eq!(answer, expected);
         assert!(records.iter().all(|&word| word == 0xa5a5_a5a5));
         assert!(states.iter().all(|&state| state == 9));
     };
-    let mut case = Case::new(&scene, vec![0]);
-    case.states = 1;
-    untouched(&case, Answer::new(20, 0));
-    case.batch.records -= 1;
-    untouched(&case, Answer::new(10, case.batch.batch.len()));
-    case.batch.capacity -= 1;
-    untouched(&case, Answer::new(9, 0));
+    for scene in scene(QUIET, &[at(1, 1), at(2, 2)]) {
+        let mut case = Case::new(&scene, vec![0]);
+        case.states = 1;
+        untouched(&case, Answer::new(20, 0));
+        case.batch.records -= 1;
+        untouched(&case, Answer::new(10, case.batch.batch.len()));
+        case.batch.capacity -= 1;
+        untouched(&case, Answer::new(9, 0));
+        for chip in [0, 5, 8, 0x106, u32::MAX] {
+            case.batch.chip = chip;
+            untouched(&case, Answer::new(18, 0));
+        }
+    }
+}
+
+/// 18 comes before 17, of the batch and of the run, and before 1.
+#[test]
+fn an_unknown_chip_comes_first() {
+    let long = vec![0; 4 * crate::batch::LIMIT + 4];
+    for chip in [0, 5, 8, 0x107, u32::MAX] {
+        for (batch, run) in [(&[0; 7][..], &[0; 13][..]), (&[], &[1]), (&long, &[])] {
+            let (mut records, mut states) = ([7; 64], [9; 4]);
+            let answer = check_bytes(chip, batch, 0, run, &mut records, &mut states);
+            assert_eq!(answer, Answer::new(18, 0));
+            assert_eq!((records, states), ([7; 64], [9; 4]));
+        }
+    }
 }
 
 #[test]
 fn odd_bytes_come_first() {
     let end = END.to_le_bytes();
-    let bytes = |batch: &[u8], run: &[u8]| check_bytes(batch, 0, run, &mut [], &mut []);
+    let bytes = |batch: &[u8], run: &[u8]| {
+        let [on_6, on_7] = CHIPS.map(|chip| check_bytes(chip, batch, 0, run, &mut [], &mut []));
+        assert_eq!(on_6, on_7);
+        on_7
+    };
     assert_eq!(bytes(&[0; 7], &[0; 13]), Answer::new(17, 1));
     assert_eq!(bytes(&[0; 8], &[0; 13]), Answer::new(17, 3));
     assert_eq!(bytes(&end, &[0; 2]), Answer::new(17, 0));

@@ -30,8 +30,14 @@ unfolding lengthAllowed
 returns-6 c = simp (taken-low, c .match .keys5)
 
 returns-7 : tie.Need-returns-7
-returns-7 c = let r = c .match .rest in none-allowed _ (r .0 .0 .0 .1) (r .0 .0 .1) (r .0 .1) (r .1) (r .0 .0 .0 .0 .1) _ (c .before .if1 .left)
+unfolding lengthAllowed
+returns-7 c = simp (taken-low, c .match .keys6)
+
+returns-8 : tie.Need-returns-8
+returns-8 c =
+    let r = c .match .rest in
+    none-allowed _ (r .0 .0 .0 .0 .1) (r .0 .0 .0 .1) (r .0 .0 .1) (r .0 .1) (r .0 .0 .0 .0 .0 .1) (r .1) _ (c .before .if1 .left)
 
 pub length-allowed-spec : {M : Type 1} → statement M
 length-allowed-spec =
-    tie.close (tie.spec returns returns-2 returns-3 returns-4 returns-5 returns-6 returns-7)
+    tie.close (tie.spec returns returns-2 returns-3 returns-4 returns-5 returns-6 returns-7 returns-8)

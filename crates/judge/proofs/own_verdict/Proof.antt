@@ -18,6 +18,9 @@ descriptor-load-requires c κs = search needs
 state-flush-requires : tie.Need-state-flush-requires
 state-flush-requires c κs = search needs
 
+gateway-state-requires : tie.Need-gateway-state-requires
+gateway-state-requires c κs = search needs
+
 returns : tie.Need-returns
 returns c = as-kind _ 7 _ _ _ (c .before .match .keys1) (c .object .ensures)
 
@@ -34,7 +37,12 @@ returns-5 : tie.Need-returns-5
 returns-5 c = as-kind _ 6 _ _ _ (c .before .match .keys5) (c .state-flush .ensures)
 
 returns-6 : tie.Need-returns-6
-returns-6 c = plain _ (c .match .rest .0 .0 .0 .1) (c .match .rest .0 .0 .1) (c .match .rest .0 .1) (c .match .rest .1) (c .match .rest .0 .0 .0 .0 .1) _ _
+returns-6 c = as-kind _ 8 _ _ _ (c .before .match .keys6) (c .gateway-state .ensures)
+
+returns-7 : tie.Need-returns-7
+returns-7 c =
+    let r = c .match .rest in
+    plain _ (r .0 .0 .0 .0 .1) (r .0 .0 .0 .1) (r .0 .0 .1) (r .0 .1) (r .0 .0 .0 .0 .0 .1) (r .1) _ _
 
 pub own-verdict-spec : {M : Type 1} → statement M
 own-verdict-spec =
@@ -45,9 +53,11 @@ own-verdict-spec =
     curbe-load-requires
     descriptor-load-requires
     state-flush-requires
+    gateway-state-requires
     returns
     returns-2
     returns-3
     returns-4
     returns-5
-    returns-6)
+    returns-6
+    returns-7)

@@ -24,6 +24,12 @@ state-flush-requires c κs = search needs
 passed-requires-3 : tie.Need-passed-requires-3
 passed-requires-3 c κs = search needs
 
+gateway-state-requires : tie.Need-gateway-state-requires
+gateway-state-requires c κs = search needs
+
+passed-requires-4 : tie.Need-passed-requires-4
+passed-requires-4 c κs = search needs
+
 returns : tie.Need-returns
 returns c = as-vouches _ 7 _ _ _ (c .before .match .keys1) (c .sound-object .ensures)
 
@@ -37,10 +43,13 @@ returns-4 : tie.Need-returns-4
 returns-4 c = passed-vouches _ 6 _ _ _ _ (c .before .before .match .keys4) (c .before .state-flush .ensures) (c .passed3 .ensures)
 
 returns-5 : tie.Need-returns-5
-returns-5 c = no-op-vouches _ _ _ (c .match .keys5)
+returns-5 c = passed-vouches _ 8 _ _ _ _ (c .before .before .match .keys5) (c .before .gateway-state .ensures) (c .passed4 .ensures)
 
 returns-6 : tie.Need-returns-6
-returns-6 c = no-vouches _ _ _
+returns-6 c = no-op-vouches _ _ _ (c .match .keys6)
+
+returns-7 : tie.Need-returns-7
+returns-7 c = no-vouches _ _ _
 
 pub sound-spec : {M : Type 1} → statement M
 sound-spec =
@@ -53,9 +62,12 @@ sound-spec =
     passed-requires-2
     state-flush-requires
     passed-requires-3
+    gateway-state-requires
+    passed-requires-4
     returns
     returns-2
     returns-3
     returns-4
     returns-5
-    returns-6)
+    returns-6
+    returns-7)

@@ -15,19 +15,19 @@ refused-requires : tie.Need-refused-requires
 refused-requires c κs = search needs
 
 returns : tie.Need-returns
-returns c = whole-text _ _ _ _ (known-as (text-long _ (c .before .before .if1 .taken)) (then (omega arith) (c .before .before .before .put .ensures .0) (c .refused .ensures .0)))
+returns c = whole-text _ _ _ _ (known-as (text-long _ _ (c .before .before .if1 .taken)) (then (omega arith) (c .before .before .before .put .ensures .0) (c .refused .ensures .0)))
 
 odd-requires : tie.Need-odd-requires
 odd-requires c κs = search needs
 
 returns-2 : tie.Need-returns-2
-returns-2 c = whole-text _ _ _ _ (known-as (text-odd _ (c .before .before .before .if1 .left) (c .before .before .if2 .taken)) (then (omega arith) (c .before .before .before .before .put .ensures .0) (c .odd .ensures .0)))
+returns-2 c = whole-text _ _ _ _ (known-as (text-odd _ _ (c .before .before .before .if1 .left) (c .before .before .if2 .taken)) (then (omega arith) (c .before .before .before .before .put .ensures .0) (c .odd .ensures .0)))
 
 outcome-requires : tie.Need-outcome-requires
 outcome-requires c κs = search needs
 
 returns-3 : tie.Need-returns-3
-returns-3 c = whole-text _ _ _ _ (known-as (text-even _ (c .before .before .before .if1 .left) (c .before .before .if2 .left)) (then (omega arith) (c .before .before .before .before .put .ensures .0) (c .outcome .ensures .0)))
+returns-3 c = whole-text _ _ _ _ (known-as (text-even _ _ (c .before .before .before .if1 .left) (c .before .before .if2 .left)) (then (omega arith) (c .before .before .before .before .put .ensures .0) (c .outcome .ensures .0)))
 
 pub list-spec : {M : Type 1} → statement M
 list-spec =

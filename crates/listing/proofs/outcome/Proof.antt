@@ -33,7 +33,7 @@ slice-aggregate-fill-3 : tie.Need-slice-aggregate-fill-3
 slice-aggregate-fill-3 c = search needs
 
 fill-requires : tie.Need-fill-requires
-fill-requires c κs = (search fits, search fits, records-room _ (omega arith) _ (c .before .before .before .before .before .before .decide .ensures) _ _ _ (c .before .before .before .before .commands .given .1) _ (omega arith))
+fill-requires c κs = (search fits, search fits, records-room _ _ (omega arith) _ (c .before .before .before .before .before .before .decide .ensures) _ _ _ (c .before .before .before .before .commands .given .1) _ (omega arith))
 
 slice-aggregate-lines : tie.Need-slice-aggregate-lines
 slice-aggregate-lines c = search needs
@@ -42,17 +42,17 @@ lines-requires : tie.Need-lines-requires
 lines-requires c κs =
     let w = c .before .before .before .before .before .before .before .before .before .before .before .decide .ensures in
     let e = c .before .before .before .before .before .before .before .before .before .commands .given .1 in
-    let h = few-commands _ (omega arith) _ w _ _ _ e in
-    (h, omega arith, omega arith, kinds-named _ (omega arith) _ w _ _ _ e _ (omega arith) _ _ (omega arith) (c .before .before .before .before .fill .ensures))
+    let h = few-commands _ _ (omega arith) _ w _ _ _ e in
+    (h, omega arith, omega arith, kinds-named _ _ (omega arith) _ w _ _ _ e _ (omega arith) _ _ (omega arith) (c .before .before .before .before .fill .ensures))
 
 accepted-requires : tie.Need-accepted-requires
-accepted-requires c κs = let h = few-commands _ (omega arith) _ (c .before .before .before .before .before .before .before .before .before .before .before .before .before .before .before .decide .ensures) _ _ _ (c .before .before .before .before .before .before .before .before .before .before .before .before .before .commands .given .1) in omega arith
+accepted-requires c κs = let h = few-commands _ _ (omega arith) _ (c .before .before .before .before .before .before .before .before .before .before .before .before .before .before .before .decide .ensures) _ _ _ (c .before .before .before .before .before .before .before .before .before .before .before .before .before .commands .given .1) in omega arith
 
 same-length : tie.Need-same-length
 same-length c = search needs
 
 returns : tie.Need-returns
-returns c = (refused-written _ (omega arith) _ (c .before .before .before .before .before .before .before .decide .ensures) _ _ _ _ _ _ (c .before .before .before .before .before .number .given .1) (c .before .before .refused .ensures .0), omega arith)
+returns c = (refused-written _ _ (omega arith) _ (c .before .before .before .before .before .before .before .decide .ensures) _ _ _ _ _ _ (c .before .before .before .before .before .number .given .1) (c .before .before .refused .ensures .0), omega arith)
 
 same-length-2 : tie.Need-same-length-2
 same-length-2 c = search needs
@@ -61,8 +61,8 @@ returns-2 : tie.Need-returns-2
 returns-2 c =
     let w = c .before .before .before .before .before .before .before .before .before .before .before .before .before .before .before .before .before .before .decide .ensures in
     let e = c .before .before .before .before .before .before .before .before .before .before .before .before .before .before .before .before .commands .given .1 in
-    let h = few-commands _ (omega arith) _ w _ _ _ e in
-    (accepted-written _ (omega arith) _ w _ _ _ e _ (omega arith) _ _ (omega arith) (c .before .before .before .before .before .before .before .before .before .before .before .fill .ensures) _ _ _ _ _ _ (omega arith) (c .before .before .before .before .before .before .lines .ensures .0) (c .before .before .accepted .ensures .0), omega arith)
+    let h = few-commands _ _ (omega arith) _ w _ _ _ e in
+    (accepted-written _ _ (omega arith) _ w _ _ _ e _ (omega arith) _ _ (omega arith) (c .before .before .before .before .before .before .before .before .before .before .before .fill .ensures) _ _ _ _ _ _ (omega arith) (c .before .before .before .before .before .before .lines .ensures .0) (c .before .before .accepted .ensures .0), omega arith)
 
 pub outcome-spec : {M : Type 1} → statement M
 outcome-spec =

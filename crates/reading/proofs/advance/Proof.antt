@@ -72,38 +72,11 @@ as-step-requires-6 c κs = search needs
 returns-6 : tie.Need-returns-6
 returns-6 c = search steps-laws
 
-advance-as-requires-7 : tie.Need-advance-as-requires-7
-advance-as-requires-7 c κs = search needs
-
-as-step-requires-7 : tie.Need-as-step-requires-7
-as-step-requires-7 c κs = search needs
-
-and-again-requires-4 : tie.Need-and-again-requires-4
-and-again-requires-4 c κs = (search needs, search needs, search turn-ready)
+advance-other-requires : tie.Need-advance-other-requires
+advance-other-requires c κs = search needs
 
 returns-7 : tie.Need-returns-7
-returns-7 c = search steps-laws
-
-advance-as-requires-8 : tie.Need-advance-as-requires-8
-advance-as-requires-8 c κs = search needs
-
-as-step-requires-8 : tie.Need-as-step-requires-8
-as-step-requires-8 c κs = search needs
-
-and-again-requires-5 : tie.Need-and-again-requires-5
-and-again-requires-5 c κs = (search needs, search needs, search turn-ready)
-
-returns-8 : tie.Need-returns-8
-returns-8 c = search steps-laws
-
-advance-as-requires-9 : tie.Need-advance-as-requires-9
-advance-as-requires-9 c κs = search needs
-
-as-step-requires-9 : tie.Need-as-step-requires-9
-as-step-requires-9 c κs = search needs
-
-returns-9 : tie.Need-returns-9
-returns-9 c = search steps-laws
+returns-7 c = search needs
 
 pub advance-spec : {M : Type 1} → statement M
 advance-spec =
@@ -132,14 +105,5 @@ advance-spec =
     advance-as-requires-6
     as-step-requires-6
     returns-6
-    advance-as-requires-7
-    as-step-requires-7
-    and-again-requires-4
-    returns-7
-    advance-as-requires-8
-    as-step-requires-8
-    and-again-requires-5
-    returns-8
-    advance-as-requires-9
-    as-step-requires-9
-    returns-9)
+    advance-other-requires
+    returns-7)

@@ -6,7 +6,7 @@ use lib.ListN.{length}
 use native.Mathlib.Omega.{arith}
 use Rattle.words.specs.Dwords.{dwordsIn}
 use Rattle.reading.specs.Turns.{scanFrom}
-use Rattle.reading.proofs.Steps.{total-one, own-again, stands-same, again-less, again-in, again-commands, again-objects, again-scan}
+use Rattle.reading.proofs.Steps.{total-one, own-again, stands-same, again-less, again-in, again-commands, again-objects, again-chip, again-scan}
 use Rattle.reading.proofs.again.Statement.{statement}
 use Rattle.reading.proofs.again.Tie as tie
 
@@ -16,6 +16,7 @@ Inv-loop dw by len from k d t at₀ s₀ at s =
     × (s .commands ≤ at)
     × (s .objects ≤ at)
     × (from ≤ at)
+    × (s .chip ≡ s₀ .chip)
     × (scanFrom (dwordsIn dw by) at s ≡ scanFrom (dwordsIn dw by) from s₀)
 
 abbrev μ-loop : tie.MeasureT-loop
@@ -36,7 +37,7 @@ repeated-requires c κs = (search needs, search needs, search total-one)
 own-dwords-requires : tie.Need-own-dwords-requires Inv-loop μ-loop
 own-dwords-requires c κs =
     let p = c .before .before .before .before .before .before .pre in
-    (own-again _ _ _ _ _ _ _ (p .0) (p .3) (c .before .before .before .total .ensures) (c .before .repeated .ensures) (c .if1 .taken) (omega arith), search needs, search stands-same)
+    (own-again _ _ _ _ _ _ _ _ (p .0) (p .3) (c .before .before .before .total .ensures) (c .before .repeated .ensures) (c .if1 .taken) (omega arith), search needs, search stands-same)
 
 sound-requires : tie.Need-sound-requires Inv-loop μ-loop
 sound-requires c κs = search needs
@@ -55,18 +56,19 @@ loop-less c =
     let p = c .before .before .before .before .before .before .before .before .before .before .pre in
     let q = c .before .before .before .before .before .before .loop .inv in
     let i : c .before .before .before .before .before .before .loop .at ≤ c .before .before .before .before .before .before .before .before .before .before .args .len = omega arith in
-    again-less _ _ _ _ _ _ _ (p .0) (p .3) (c .before .before .before .before .before .before .before .total .ensures) (c .before .before .before .before .before .repeated .ensures) (c .before .before .before .before .if1 .taken) i _ _ _ _ (c .before .before .before .own-dwords .ensures) (c .before .before .sound .ensures) (not-false _ (c .before .if2 .left)) (c .after .ensures)
+    again-less _ _ _ _ _ _ _ _ (p .0) (p .3) (c .before .before .before .before .before .before .before .total .ensures) (c .before .before .before .before .before .repeated .ensures) (c .before .before .before .before .if1 .taken) i _ _ _ _ (c .before .before .before .own-dwords .ensures) (c .before .before .sound .ensures) (not-false _ (c .before .if2 .left)) (c .after .ensures) (q .4)
 
 loop-again : tie.Need-loop-again Inv-loop μ-loop
 loop-again c =
     let p = c .before .before .before .before .before .before .before .before .before .before .pre in
     let q = c .before .before .before .before .before .before .loop .inv in
     let i : c .before .before .before .before .before .before .loop .at ≤ c .before .before .before .before .before .before .before .before .before .before .args .len = omega arith in (
-      again-in _ _ _ _ _ _ _ (p .0) (p .3) (c .before .before .before .before .before .before .before .total .ensures) (c .before .before .before .before .before .repeated .ensures) (c .before .before .before .before .if1 .taken) i _ _ _ _ (c .before .before .before .own-dwords .ensures) (c .before .before .sound .ensures) (not-false _ (c .before .if2 .left)) (c .after .ensures),
-      again-commands _ _ _ _ _ _ _ (p .0) (p .3) (c .before .before .before .before .before .before .before .total .ensures) (c .before .before .before .before .before .repeated .ensures) (c .before .before .before .before .if1 .taken) i _ _ _ _ (c .before .before .before .own-dwords .ensures) (c .before .before .sound .ensures) (not-false _ (c .before .if2 .left)) (c .after .ensures) (q .1),
-      again-objects _ _ _ _ _ _ _ (p .0) (p .3) (c .before .before .before .before .before .before .before .total .ensures) (c .before .before .before .before .before .repeated .ensures) (c .before .before .before .before .if1 .taken) i _ _ _ _ (c .before .before .before .own-dwords .ensures) (c .before .before .sound .ensures) (not-false _ (c .before .if2 .left)) (c .after .ensures) (q .2),
+      again-in _ _ _ _ _ _ _ _ (p .0) (p .3) (c .before .before .before .before .before .before .before .total .ensures) (c .before .before .before .before .before .repeated .ensures) (c .before .before .before .before .if1 .taken) i _ _ _ _ (c .before .before .before .own-dwords .ensures) (c .before .before .sound .ensures) (not-false _ (c .before .if2 .left)) (c .after .ensures) (q .4),
+      again-commands _ _ _ _ _ _ _ _ (p .0) (p .3) (c .before .before .before .before .before .before .before .total .ensures) (c .before .before .before .before .before .repeated .ensures) (c .before .before .before .before .if1 .taken) i _ _ _ _ (c .before .before .before .own-dwords .ensures) (c .before .before .sound .ensures) (not-false _ (c .before .if2 .left)) (c .after .ensures) (q .4) (q .1),
+      again-objects _ _ _ _ _ _ _ _ (p .0) (p .3) (c .before .before .before .before .before .before .before .total .ensures) (c .before .before .before .before .before .repeated .ensures) (c .before .before .before .before .if1 .taken) i _ _ _ _ (c .before .before .before .own-dwords .ensures) (c .before .before .sound .ensures) (not-false _ (c .before .if2 .left)) (c .after .ensures) (q .4) (q .2),
       search needs,
-      again-scan _ _ _ _ _ _ _ (p .0) (p .3) (c .before .before .before .before .before .before .before .total .ensures) (c .before .before .before .before .before .repeated .ensures) (c .before .before .before .before .if1 .taken) i _ _ _ _ (c .before .before .before .own-dwords .ensures) (c .before .before .sound .ensures) (not-false _ (c .before .if2 .left)) (c .after .ensures) _ (q .4),
+      again-chip _ _ _ _ _ _ _ _ (p .0) (p .3) (c .before .before .before .before .before .before .before .total .ensures) (c .before .before .before .before .before .repeated .ensures) (c .before .before .before .before .if1 .taken) i _ _ _ _ (c .before .before .before .own-dwords .ensures) (c .before .before .sound .ensures) (not-false _ (c .before .if2 .left)) (c .after .ensures) (q .4),
+      again-scan _ _ _ _ _ _ _ _ (p .0) (p .3) (c .before .before .before .before .before .before .before .total .ensures) (c .before .before .before .before .before .repeated .ensures) (c .before .before .before .before .if1 .taken) i _ _ _ _ (c .before .before .before .own-dwords .ensures) (c .before .before .sound .ensures) (not-false _ (c .before .if2 .left)) (c .after .ensures) (q .4) _ (q .5),
     )
 
 returns-2 : tie.Need-returns-2 Inv-loop μ-loop

@@ -1,21 +1,20 @@
 use Prim.Native.Nat.{_≤_, _-_}
-use mathlib.Core.Path.{_≡_}
+use mathlib.Core.Path.{_≡_, refl}
 use borrow.Author.Needs.{needs}
 use lib.ListN.{length}
 use Rattle.words.specs.Dwords.{dwordsIn}
-use Rattle.reading.specs.Decision.{scanOf}
 use Rattle.reading.specs.Turns.{scanFrom}
-use Rattle.reading.proofs.Scans.{start-laws, scan-laws}
+use Rattle.reading.proofs.Scans.{start-laws, scan-start, scan-end}
 use Rattle.reading.proofs.Steps.{found-laws, on-laws}
 use Rattle.reading.proofs.scan.Statement.{statement}
 use Rattle.reading.proofs.scan.Tie as tie
 
 abbrev Inv-loop : tie.InvT-loop
-Inv-loop dw by capacity len at₀ st₀ at st =
-    (at ≤ length (dwordsIn dw by)) × (st .commands ≤ at) × (st .objects ≤ at) × (scanFrom (dwordsIn dw by) at st ≡ scanOf capacity (dwordsIn dw by))
+Inv-loop dw by len at₀ st₀ at st =
+    (at ≤ length (dwordsIn dw by)) × (st .commands ≤ at) × (st .objects ≤ at) × (scanFrom (dwordsIn dw by) at st ≡ scanFrom (dwordsIn dw by) at₀ st₀)
 
 abbrev μ-loop : tie.MeasureT-loop
-μ-loop dw by capacity len at₀ st₀ at st = length (dwordsIn dw by) - at
+μ-loop dw by len at₀ st₀ at st = length (dwordsIn dw by) - at
 
 held-requires : tie.Need-held-requires Inv-loop μ-loop
 held-requires c κs = search needs
@@ -24,7 +23,7 @@ start-requires : tie.Need-start-requires Inv-loop μ-loop
 start-requires c κs = search needs
 
 loop-holds : tie.Need-loop-holds Inv-loop μ-loop
-loop-holds c = (search needs, search start-laws, search start-laws, search scan-laws)
+loop-holds c = (search needs, search start-laws, search start-laws, refl)
 
 advance-requires : tie.Need-advance-requires Inv-loop μ-loop
 advance-requires c κs = search needs
@@ -39,7 +38,7 @@ add-t14 : tie.Need-add-t14 Inv-loop μ-loop
 add-t14 c = search needs
 
 returns : tie.Need-returns Inv-loop μ-loop
-returns c = search found-laws
+returns c = search (found-laws, scan-start)
 
 enum-told : tie.Need-enum-told Inv-loop μ-loop
 enum-told c = search needs
@@ -57,7 +56,7 @@ cast-t18 : tie.Need-cast-t18 Inv-loop μ-loop
 cast-t18 c = search needs
 
 returns-2 : tie.Need-returns-2 Inv-loop μ-loop
-returns-2 c = search found-laws
+returns-2 c = search (found-laws, scan-start)
 
 enum-known-to : tie.Need-enum-known-to Inv-loop μ-loop
 enum-known-to c = search needs
@@ -69,7 +68,7 @@ loop-again : tie.Need-loop-again Inv-loop μ-loop
 loop-again c = (search on-laws, search on-laws, search on-laws, search found-laws)
 
 returns-3 : tie.Need-returns-3 Inv-loop μ-loop
-returns-3 c = search scan-laws
+returns-3 c = search (scan-end, scan-start)
 
 pub scan-spec : {M : Type 1} → statement M
 scan-spec =

@@ -36,8 +36,14 @@ array-read-short-5 c = search needs
 short-requires-3 : tie.Need-short-requires-3
 short-requires-3 c κs = search needs
 
+array-read-short-6 : tie.Need-array-read-short-6
+array-read-short-6 c = search needs
+
 short-requires-4 : tie.Need-short-requires-4
 short-requires-4 c κs = search needs
+
+short-requires-5 : tie.Need-short-requires-5
+short-requires-5 c κs = search needs
 
 returns : tie.Need-returns
 returns c = as-kind _ _ _ _ _ _ 7 _ (c .before .match .keys1) (c .object .ensures)
@@ -59,9 +65,20 @@ returns-5 c = simp (coded, c .before .match .keys5) (c .short3 .ensures)
 
 returns-6 : tie.Need-returns-6
 unfolding recordOf
-returns-6 c =
+returns-6 c = simp (coded, c .before .match .keys6) (c .short4 .ensures)
+
+returns-7 : tie.Need-returns-7
+unfolding recordOf
+returns-7 c =
     let r = c .before .match .rest in
-    simp (ne-eqb _ _ (r .1), ne-eqb _ _ (r .0 .1), ne-eqb _ _ (r .0 .0 .1), ne-eqb _ _ (r .0 .0 .0 .1), ne-eqb _ _ (r .0 .0 .0 .0 .1)) (c .short4 .ensures)
+    simp (
+      ne-eqb _ _ (r .1),
+      ne-eqb _ _ (r .0 .1),
+      ne-eqb _ _ (r .0 .0 .1),
+      ne-eqb _ _ (r .0 .0 .0 .1),
+      ne-eqb _ _ (r .0 .0 .0 .0 .1),
+      ne-eqb _ _ (r .0 .0 .0 .0 .0 .1),
+    ) (c .short5 .ensures)
 
 pub words-spec : {M : Type 1} → statement M
 words-spec =
@@ -77,10 +94,13 @@ words-spec =
     short-requires-2
     array-read-short-5
     short-requires-3
+    array-read-short-6
     short-requires-4
+    short-requires-5
     returns
     returns-2
     returns-3
     returns-4
     returns-5
-    returns-6)
+    returns-6
+    returns-7)

@@ -6,7 +6,7 @@ use lib.ListN.{length}
 use Rattle.words.specs.Dwords.{dwordsIn, buffer}
 use Rattle.records.specs.Turns.{recordsFrom, Left, restOf, GoesOn}
 use Rattle.records.proofs.Fills.{own-passed, left-in, left-passes}
-use Rattle.records.proofs.Places.{room-there, left-small, allowed-length, then-less, then-left, then-records}
+use Rattle.records.proofs.Places.{room-there, left-small, allowed-length, same-header, then-less, then-left, then-chip, then-records}
 use Rattle.records.proofs.again.Statement.{statement}
 use Rattle.records.proofs.again.Tie as tie
 
@@ -16,6 +16,7 @@ Inv-loop dw by from k d rd₀ rb₀ t at₀ s₀ rd rb at s =
     × (length rd ≡ length rd₀)
     × (length rb ≡ length rb₀)
     × (from ≤ at)
+    × (s .chip ≡ s₀ .chip)
     × (recordsFrom (dwordsIn dw by) at s (buffer rd rb) ≡ recordsFrom (dwordsIn dw by) from s₀ (buffer rd₀ rb₀))
 
 abbrev μ-loop : tie.MeasureT-loop
@@ -25,7 +26,7 @@ passed-total-requires : tie.Need-passed-total-requires Inv-loop μ-loop
 passed-total-requires c κs = search allowed-length
 
 loop-holds : tie.Need-loop-holds Inv-loop μ-loop
-loop-holds c = (c .before .before .before .before .before .pre .0, refl, refl, search needs, refl)
+loop-holds c = (c .before .before .before .before .before .pre .0, refl, refl, search needs, refl, refl)
 
 word-requires : tie.Need-word-requires Inv-loop μ-loop
 word-requires c κs = left-in _ _ _ _ (c .loop .inv .0)
@@ -35,7 +36,7 @@ own-dwords-requires c κs =
     let l = c .before .before .loop .inv .0 in
     let d = sym (c .if1 .taken) ∙ c .before .word .ensures in
     let z = left-small _ _ _ _ l in
-    (own-passed _ _ _ _ _ d (c .before .before .before .before .before .before .before .before .pre .1 .kind) (left-passes _ _ _ _ l) (left-in _ _ _ _ l), omega arith, d)
+    (own-passed _ _ _ _ _ d (same-header _ _ _ _ (c .before .before .loop .inv .4) (c .before .before .before .before .before .before .before .before .pre .1)) (left-passes _ _ _ _ l) (left-in _ _ _ _ l), omega arith, d)
 
 cast-put : tie.Need-cast-put Inv-loop μ-loop
 cast-put c = search needs
@@ -69,7 +70,7 @@ loop-less c =
     let d = sym (c .before .before .before .before .before .before .before .before .before .before .before .if1 .taken) ∙ c .before .before .before .before .before .before .before .before .before .before .before .before .word .ensures in
     let t = c .before .before .before .before .before .before .before .before .before .before .before .before .before .before .passed-total .ensures in
     let h = c .before .before .before .before .before .before .before .before .before .before .own-dwords .ensures in
-    then-less _ _ _ _ (q .0) _ _ d (p .1 .kind) _ _ t h _ (p .1 .goes) (c .after .ensures)
+    then-less _ _ _ _ (q .0) _ _ d (same-header _ _ _ _ (q .4) (p .1)) _ _ t h _ (p .1 .goes) (c .after .ensures)
 
 loop-again : tie.Need-loop-again Inv-loop μ-loop
 loop-again c =
@@ -78,11 +79,12 @@ loop-again c =
     let d = sym (c .before .before .before .before .before .before .before .before .before .before .before .if1 .taken) ∙ c .before .before .before .before .before .before .before .before .before .before .before .before .word .ensures in
     let t = c .before .before .before .before .before .before .before .before .before .before .before .before .before .before .passed-total .ensures in
     let h = c .before .before .before .before .before .before .before .before .before .before .own-dwords .ensures in (
-      then-left _ _ _ _ (q .0) _ _ d (p .1 .kind) _ _ t h _ (p .1 .goes) (c .after .ensures),
+      then-left _ _ _ _ (q .0) _ _ d (same-header _ _ _ _ (q .4) (p .1)) _ _ t h _ (p .1 .goes) (c .after .ensures),
       search needs,
       search needs,
       search needs,
-      then-records _ _ _ _ (q .0) _ _ d (p .1 .kind) _ _ t h _ (p .1 .goes) (c .after .ensures) _ _ _ (c .before .before .before .before .before .before .words .ensures) (c .before .before .before .before .before .put .ensures) ∙ q .4,
+      then-chip _ _ _ _ (q .0) _ _ d (same-header _ _ _ _ (q .4) (p .1)) _ _ t h _ (p .1 .goes) (c .after .ensures) ∙ q .4,
+      then-records _ _ _ _ (q .0) _ _ d (same-header _ _ _ _ (q .4) (p .1)) _ _ t h _ (p .1 .goes) (c .after .ensures) _ _ _ (c .before .before .before .before .before .before .words .ensures) (c .before .before .before .before .before .put .ensures) ∙ q .5,
     )
 
 same-length : tie.Need-same-length Inv-loop μ-loop
@@ -93,7 +95,7 @@ same-length-2 c = search needs
 
 returns : tie.Need-returns Inv-loop μ-loop
 unfolding restOf GoesOn
-returns c = let q = c .before .before .loop .inv in (q .4, (q .3, q .0))
+returns c = let q = c .before .before .loop .inv in (q .5, (q .3, q .0))
 
 pub again-spec : {M : Type 1} → statement M
 again-spec =

@@ -24,9 +24,12 @@ returns-5 : tie.Need-returns-5
 returns-5 c = kind-total _ 6 _ (omega arith) (λ q. omega arith) (c .match .keys5) (c .before .pre)
 
 returns-6 : tie.Need-returns-6
-returns-6 c =
-    plain-total _ _ (c .match .rest .0 .0 .0 .1) (c .match .rest .0 .0 .1) (c .match .rest .0 .1) (c .match .rest .1) (c .match .rest .0 .0 .0 .0 .1)
-    (c .before .pre)
+returns-6 c = kind-total _ 8 _ (omega arith) (λ q. omega arith) (c .match .keys6) (c .before .pre)
+
+returns-7 : tie.Need-returns-7
+returns-7 c =
+    let r = c .match .rest in
+    plain-total _ _ (r .0 .0 .0 .0 .1) (r .0 .0 .0 .1) (r .0 .0 .1) (r .0 .1) (r .0 .0 .0 .0 .0 .1) (r .1) (c .before .pre)
 
 pub passed-total-spec : {M : Type 1} → statement M
-passed-total-spec = tie.close (tie.spec add-result returns returns-2 returns-3 returns-4 returns-5 returns-6)
+passed-total-spec = tie.close (tie.spec add-result returns returns-2 returns-3 returns-4 returns-5 returns-6 returns-7)

@@ -59,8 +59,8 @@ same-length-6 c = search needs
 returns-3 : tie.Need-returns-3
 returns-3 c = search needs
 
-record-as-requires-4 : tie.Need-record-as-requires-4
-record-as-requires-4 c κs = search needs
+record-other-requires : tie.Need-record-other-requires
+record-other-requires c κs = search needs
 
 same-length-7 : tie.Need-same-length-7
 same-length-7 c = search needs
@@ -70,42 +70,6 @@ same-length-8 c = search needs
 
 returns-4 : tie.Need-returns-4
 returns-4 c = search needs
-
-record-as-requires-5 : tie.Need-record-as-requires-5
-record-as-requires-5 c κs = search needs
-
-same-length-9 : tie.Need-same-length-9
-same-length-9 c = search needs
-
-same-length-10 : tie.Need-same-length-10
-same-length-10 c = search needs
-
-returns-5 : tie.Need-returns-5
-returns-5 c = search needs
-
-record-as-requires-6 : tie.Need-record-as-requires-6
-record-as-requires-6 c κs = search needs
-
-same-length-11 : tie.Need-same-length-11
-same-length-11 c = search needs
-
-same-length-12 : tie.Need-same-length-12
-same-length-12 c = search needs
-
-returns-6 : tie.Need-returns-6
-returns-6 c = search needs
-
-record-as-requires-7 : tie.Need-record-as-requires-7
-record-as-requires-7 c κs = search needs
-
-same-length-13 : tie.Need-same-length-13
-same-length-13 c = search needs
-
-same-length-14 : tie.Need-same-length-14
-same-length-14 c = search needs
-
-returns-7 : tie.Need-returns-7
-returns-7 c = search needs
 
 pub record-at-spec : {M : Type 1} → statement M
 record-at-spec =
@@ -127,19 +91,7 @@ record-at-spec =
     same-length-5
     same-length-6
     returns-3
-    record-as-requires-4
+    record-other-requires
     same-length-7
     same-length-8
-    returns-4
-    record-as-requires-5
-    same-length-9
-    same-length-10
-    returns-5
-    record-as-requires-6
-    same-length-11
-    same-length-12
-    returns-6
-    record-as-requires-7
-    same-length-13
-    same-length-14
-    returns-7)
+    returns-4)

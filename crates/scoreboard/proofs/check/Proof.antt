@@ -1,19 +1,25 @@
-use Rattle.scoreboard.proofs.Orders.{dwords-order}
+use Rattle.scoreboard.proofs.Orders.{unknown-order, known-order}
 use borrow.Author.Needs.{needs}
 use Rattle.scoreboard.proofs.check.Statement.{statement}
 use Rattle.scoreboard.proofs.check.Tie as tie
 
-slice-aggregate-order : tie.Need-slice-aggregate-order
-slice-aggregate-order c = search needs
+chip-named-requires : tie.Need-chip-named-requires
+chip-named-requires c κs = search needs
 
-slice-aggregate-order-2 : tie.Need-slice-aggregate-order-2
-slice-aggregate-order-2 c = search needs
+enum-told : tie.Need-enum-told
+enum-told c = search needs
 
-slice-aggregate-order-3 : tie.Need-slice-aggregate-order-3
-slice-aggregate-order-3 c = search needs
+refused-requires : tie.Need-refused-requires
+refused-requires c κs = search needs
 
-order-requires : tie.Need-order-requires
-order-requires c κs = search needs
+enum-known-chip : tie.Need-enum-known-chip
+enum-known-chip c = search needs
+
+check-for-requires : tie.Need-check-for-requires
+check-for-requires c κs = search needs
+
+returns : tie.Need-returns
+returns c = search unknown-order
 
 same-length : tie.Need-same-length
 same-length c = search needs
@@ -21,17 +27,19 @@ same-length c = search needs
 same-length-2 : tie.Need-same-length-2
 same-length-2 c = search needs
 
-returns : tie.Need-returns
-returns c = dwords-order _ _ _ _ _ _ _ _ _ (search needs) (c .before .before .before .before .before .order .ensures)
+returns-2 : tie.Need-returns-2
+returns-2 c = search known-order
 
 pub check-spec : {M : Type 1} → statement M
 check-spec =
     tie.close
     (tie.spec
-    slice-aggregate-order
-    slice-aggregate-order-2
-    slice-aggregate-order-3
-    order-requires
+    chip-named-requires
+    enum-told
+    refused-requires
+    enum-known-chip
+    check-for-requires
+    returns
     same-length
     same-length-2
-    returns)
+    returns-2)

@@ -20,6 +20,7 @@ pub fn run(tables: &mut Tables) {
             let (batch, commands, rows) = scene.batch();
             let objects = scene.objects();
             let lent = Course {
+                chip: scene.chip(),
                 batch: &batch,
                 looked_at: &batch,
                 rows,

@@ -1,4 +1,5 @@
-//! The order check, by kind of run: time per event, the check of the batch included.
+//! The order check, by kind of run: time per event, the check of the batch included, on
+//! Gen7 where the row names no chip.
 
 use crate::batch::looked_at;
 use crate::limit::{self, Plain};
@@ -20,12 +21,14 @@ pub fn run(tables: &mut Tables) {
     let (width, height) = PICTURE;
     let parts = [height / 4, height / 2, height];
     let pictures = [
-        ("wave by wave, stalling", Layout::Waves),
-        ("block by block, stalling", Layout::Raster),
+        (7, "wave by wave, stalling", Layout::Waves),
+        (6, "wave by wave, stalling, Gen6", Layout::Waves),
+        (7, "block by block, stalling", Layout::Raster),
+        (6, "block by block, stalling, Gen6", Layout::Raster),
     ];
-    for (name, layout) in pictures {
+    for (chip, name, layout) in pictures {
         for part in parts {
-            let (scene, run) = picture(width, part, layout, true);
+            let (scene, run) = picture(chip, (width, part), layout, true);
             both_entries(tables, name, &scene, &run);
         }
     }
@@ -131,7 +134,9 @@ pub fn first_runs_on(objects: u32) -> Vec<u32> {
 
 fn both_entries(tables: &mut Tables, name: &str, scene: &Scene, run: &[u32]) {
     let (batch, commands, rows) = scene.batch();
+    let chip = scene.chip();
     let lent = Course {
+        chip,
         looked_at: &looked_at(&batch),
         batch: &batch,
         rows,
@@ -143,6 +148,7 @@ fn both_entries(tables: &mut Tables, name: &str, scene: &Scene, run: &[u32]) {
     let entries = [ffi::check_order, order::check_bytes];
     let [batch, looked_at, run] = [lent.batch, lent.looked_at, run].map(generate::bytes);
     let lent = Course {
+        chip,
         batch: &batch,
         looked_at: &looked_at,
         rows,
@@ -168,10 +174,11 @@ pub fn input(name: &str, entry: &'static str, size: usize) -> Input {
     }
 }
 
-type Check<T> = fn(&[T], u32, &[T], &mut [T], &mut [u8]) -> Answer;
+type Check<T> = fn(u32, &[T], u32, &[T], &mut [T], &mut [u8]) -> Answer;
 
 /// What is lent to an entry: what it reads, and the lengths of what it writes.
 pub struct Course<'a, T> {
+    pub chip: u32,
     pub batch: &'a [T],
     /// The batch without inline data.
     pub looked_at: &'a [T],
@@ -184,7 +191,7 @@ pub struct Course<'a, T> {
 fn row<T: Plain>(tables: &mut Tables, input: Input, entries: [Check<T>; 2], lent: &Course<T>) {
     // Unknown to the compiler, as in the batch's rows.
     let entries = black_box(entries);
-    let rows = lent.rows;
+    let (chip, rows) = (lent.chip, lent.rows);
     let mut batch = Lent::holding(lent.batch, 0);
     let mut looked_at = Lent::holding(lent.looked_at, 0);
     let mut run = Lent::holding(lent.run, 2048);
@@ -193,18 +200,21 @@ fn row<T: Plain>(tables: &mut Tables, input: Input, entries: [Check<T>; 2], lent
     let (batch, looked_at, run) = (batch.get(), looked_at.get(), run.get());
     let (records, states) = (records.get(), states.get());
 
-    let expected = entries[1](batch, rows, run, records, states);
+    let expected = entries[1](chip, batch, rows, run, records, states);
     assert_eq!(expected.number, 0);
     let left = (records.to_vec(), states.to_vec());
     records.fill(T::default());
     states.fill(0);
-    assert_eq!(entries[0](batch, rows, run, records, states), expected);
+    assert_eq!(
+        entries[0](chip, batch, rows, run, records, states),
+        expected
+    );
     assert!(*records == left.0 && *states == left.1);
 
     tables.row(input, |side| {
         let answer = match side {
-            Side::Library => entries[0](batch, rows, run, records, states),
-            Side::Second => entries[1](batch, rows, run, records, states),
+            Side::Library => entries[0](chip, batch, rows, run, records, states),
+            Side::Second => entries[1](chip, batch, rows, run, records, states),
             Side::Limit => {
                 limit::read(looked_at);
                 limit::read(run);

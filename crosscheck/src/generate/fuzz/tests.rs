@@ -17,19 +17,22 @@ fn reached<C>(make: fn(&mut Random) -> C, number: fn(&C) -> usize) -> [usize; 40
 fn every_number_is_met() {
     let batches = reached(batch, |case| {
         let mut records = vec![0; case.record_bytes()];
-        checked::check_bytes(&case.bytes(), case.capacity, &mut records).number as usize
+        let batch = case.bytes();
+        checked::check_bytes(case.chip, &batch, case.capacity, &mut records).number as usize
     });
-    for number in [0].into_iter().chain(2..=10).chain([17]) {
+    for number in [0].into_iter().chain(2..=10).chain([17, 18]) {
         assert!(batches[number] > 8, "{number}: {}", batches[number]);
     }
     let orders = reached(order, |case| {
         let mut records = vec![0; case.batch.record_bytes()];
         let mut states = vec![0; case.states];
-        let capacity = case.batch.capacity;
+        let crate::generate::batch::Case { chip, capacity, .. } = case.batch;
         let (batch, run) = (case.batch.bytes(), case.run_bytes());
-        run::check_bytes(&batch, capacity, &run, &mut records, &mut states).number as usize
+        let answer = run::check_bytes(chip, &batch, capacity, &run, &mut records, &mut states);
+        answer.number as usize
     });
-    for number in [0].into_iter().chain(2..=10).chain([17]).chain(20..=25) {
+    let numbers = [0].into_iter().chain(2..=10).chain([17, 18]).chain(20..=25);
+    for number in numbers {
         assert!(orders[number] > 8, "{number}: {}", orders[number]);
     }
     let recordings = reached(recording, |case| {

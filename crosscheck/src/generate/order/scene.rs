@@ -5,7 +5,7 @@
 //! so that runs of any sort can be made, and the second implementation is tested
 //! against them as well.
 
-use crate::generate::batch::{flat, rows, Command};
+use crate::generate::batch::{flat, rows, Command, Rows};
 use crate::order::{Answer, FINISHED, RUNNING, WAITING};
 use crate::random::Random;
 
@@ -28,9 +28,10 @@ pub struct Object {
     pub mask: u8,
 }
 
-/// An accepted batch under construction, without its END.
-#[derive(Clone, Default)]
+/// A batch under construction that its chip accepts, without its END.
+#[derive(Clone)]
 pub struct Scene {
+    chip: u32,
     commands: Vec<Command>,
     vfes: Vec<Vfe>,
     /// Each with the number of its VFE.
@@ -44,12 +45,25 @@ fn nibble(delta: i32) -> u32 {
 }
 
 impl Scene {
+    pub fn new(chip: u32) -> Self {
+        Scene {
+            chip,
+            commands: Vec::new(),
+            vfes: Vec::new(),
+            objects: Vec::new(),
+        }
+    }
+
+    pub fn chip(&self) -> u32 {
+        self.chip
+    }
+
     /// A VFE, with what the order of commands asks for before and after it.
     pub fn vfe(&mut self, random: &mut Random, vfe: Vfe) {
         if !self.vfes.is_empty() {
             self.commands.push(Command::plain(1));
         }
-        let mut command = Command::vfe(random, 1, 2, 4);
+        let mut command = Command::vfe(random, self.chip, Rows(1, 2, 4));
         let flags = u32::from(vfe.enable) << 31 | u32::from(!vfe.stalling) << 30;
         command.words[5] = flags | u32::from(vfe.mask);
         for (half, dword) in [(0, 6), (4, 7)] {
@@ -68,7 +82,7 @@ impl Scene {
 
     /// An OBJECT under the last VFE.
     pub fn object(&mut self, random: &mut Random, object: Object, inline: usize) {
-        let mut command = Command::object(random, 1, inline);
+        let mut command = Command::object(random, self.chip, 1, inline);
         command.words[2] = command.words[2] & !(1 << 21) | u32::from(object.own_use) << 21;
         command.words[4] = (object.y as u32) << 16 | object.x as u32;
         command.words[5] = object.colour << 16 | u32::from(object.mask);
@@ -77,12 +91,16 @@ impl Scene {
     }
 
     /// A command that changes nothing on the scoreboard: no-op, flush, state
-    /// flush or, after a VFE, CURBE load.
+    /// flush or, after a VFE, CURBE load and on Gen6 gateway state.
     pub fn filler(&mut self, random: &mut Random) {
-        let command = match random.pick(&[0, 0, 1, 4, 6]) {
-            4 if !self.vfes.is_empty() => Command::load(4, 32 * random.below(5) as u32, 0x40),
-            4 => Command::plain(0),
-            kind => Command::random(random, kind),
+        let kinds: &[usize] = match self.chip {
+            6 => &[0, 0, 1, 4, 6, 8, 8],
+            _ => &[0, 0, 1, 4, 6],
+        };
+        let command = match random.pick(kinds) {
+            4 | 8 if self.vfes.is_empty() => Command::plain(0),
+            4 => Command::load(4, 32 * random.below(5) as u32, 0x40),
+            kind => Command::random(random, self.chip, kind),
         };
         self.commands.push(command);
     }
@@ -256,9 +274,14 @@ pub enum Layout {
 /// A picture of blocks, each predicted from its left, upper and upper right
 /// neighbour, and the run in which every block starts and finishes: block by
 /// block in raster order, or wave by wave, all of a wave in flight.
-pub fn picture(width: i32, height: i32, layout: Layout, stalling: bool) -> (Scene, Vec<u32>) {
+pub fn picture(
+    chip: u32,
+    (width, height): (i32, i32),
+    layout: Layout,
+    stalling: bool,
+) -> (Scene, Vec<u32>) {
     let random = &mut Random::new(1);
-    let mut scene = Scene::default();
+    let mut scene = Scene::new(chip);
     let mut deltas = [(0, 0); 8];
     deltas[..3].copy_from_slice(&[(-1, 0), (0, -1), (1, -1)]);
     scene.vfe(
@@ -290,7 +313,8 @@ pub fn picture(width: i32, height: i32, layout: Layout, stalling: bool) -> (Scen
     (scene, run)
 }
 
-/// So many objects under one VFE, each where and as `object` says, with no inline data.
+/// So many objects of Gen7 under one VFE, each where and as `object` says, with no inline
+/// data.
 pub fn field(objects: usize, vfe: Vfe, object: impl Fn(usize) -> Object) -> Scene {
     field_with_gaps(objects, &[], vfe, object)
 }
@@ -303,7 +327,7 @@ pub fn field_with_gaps(
     object: impl Fn(usize) -> Object,
 ) -> Scene {
     let random = &mut Random::new(1);
-    let mut scene = Scene::default();
+    let mut scene = Scene::new(7);
     scene.vfe(random, vfe);
     for number in 0..objects {
         scene.object(random, object(number), 0);

@@ -5,6 +5,7 @@ fn checked(case: &Case) -> (Answer, Vec<u8>) {
     let mut records = vec![0; case.batch.records];
     let mut states = vec![9; case.states];
     let answer = check(
+        case.batch.chip,
         &case.batch.batch,
         case.batch.capacity,
         &case.run,
@@ -71,11 +72,13 @@ fn pictures_pass() {
     for layout in [Layout::Raster, Layout::Waves] {
         for stalling in [false, true] {
             for (width, height) in [(1, 1), (1, 9), (9, 1), PICTURE] {
-                let (scene, run) = picture(width, height, layout, stalling);
-                assert_eq!(scene.objects(), (width * height) as usize);
-                let (answer, _) = checked(&Case::new(&scene, run.clone()));
-                assert_eq!(answer, Answer::new(0, 2 * scene.objects()));
-                assert_eq!(answer, scene.judge(&run).0);
+                for chip in CHIPS {
+                    let (scene, run) = picture(chip, (width, height), layout, stalling);
+                    assert_eq!(scene.objects(), (width * height) as usize);
+                    let (answer, _) = checked(&Case::new(&scene, run.clone()));
+                    assert_eq!(answer, Answer::new(0, 2 * scene.objects()));
+                    assert_eq!(answer, scene.judge(&run).0);
+                }
             }
         }
     }
@@ -83,26 +86,37 @@ fn pictures_pass() {
 
 #[test]
 fn sweep_reaches_every_number() {
-    let mut dwords = [0; 26];
-    let mut bytes = [0; 26];
-    let mut odd_run = 0;
+    let mut dwords = [[0; 26]; 3];
+    let mut bytes = [[0; 26]; 3];
+    let mut odd_run = [0; 3];
     for case in sweep(1) {
-        dwords[checked(&case).0.number as usize] += 1;
+        let named = |&chip: &u32| chip == case.batch.chip;
+        let chip = CHIPS.iter().position(named).unwrap_or(2);
+        dwords[chip][checked(&case).0.number as usize] += 1;
         let mut records = vec![0; case.batch.record_bytes()];
         let mut states = vec![9; case.states];
         let answer = check_bytes(
+            case.batch.chip,
             &case.batch.bytes(),
             case.batch.capacity,
             &case.run_bytes(),
             &mut records,
             &mut states,
         );
-        bytes[answer.number as usize] += 1;
-        odd_run += usize::from(answer.number == 17 && case.batch.tail.is_empty());
+        bytes[chip][answer.number as usize] += 1;
+        odd_run[chip] += usize::from(answer.number == 17 && case.batch.tail.is_empty());
     }
-    for number in (0..=10).chain(20..=25) {
-        assert!(dwords[number] > 0 && bytes[number] > 0, "{number}");
+    for chip in 0..2 {
+        let (dwords, bytes) = (&dwords[chip], &bytes[chip]);
+        for number in (0..=10).chain(20..=25) {
+            assert!(dwords[number] > 0 && bytes[number] > 0, "{number}");
+        }
+        assert!(odd_run[chip] > 0 && bytes[17] > odd_run[chip]);
+        assert_eq!([dwords[17], dwords[18], bytes[18]], [0; 3]);
     }
-    assert!(odd_run > 0 && bytes[17] > odd_run);
-    assert_eq!(dwords[17], 0);
+    // Where the number names no chip, it is 18 alone.
+    for numbers in [dwords[2], bytes[2]] {
+        assert!(numbers[18] > 0);
+        assert_eq!(numbers.iter().sum::<usize>(), numbers[18]);
+    }
 }

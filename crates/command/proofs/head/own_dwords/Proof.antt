@@ -1,7 +1,7 @@
 use mathlib.Core.Path.{refl, _∙_}
 use Rattle.words.specs.Dwords.{lent}
 use Rattle.command.specs.Kinds.{ownDwords}
-use Rattle.command.proofs.Heads.{as-kind, own-at, five-as-four, head-one}
+use Rattle.command.proofs.Heads.{as-kind, own-at, five-as-four, eight-as-six, head-one}
 use Rattle.command.proofs.head.own_dwords.Statement.{statement}
 use Rattle.command.proofs.head.own_dwords.Tie as tie
 
@@ -29,11 +29,17 @@ load-dwords-requires-2 c κs =
     let a = c .before .before .before .args in
     own-at _ 5 4 (lent (a .dw) (a .by)) _ _ refl (c .match .keys4) (c .before .before .before .pre)
 
-flush-dwords-requires : tie.Need-flush-dwords-requires
+short-dwords-requires : tie.Need-short-dwords-requires
 unfolding ownDwords
-flush-dwords-requires c κs =
+short-dwords-requires c κs =
     let a = c .before .before .before .args in
     own-at _ 6 2 (lent (a .dw) (a .by)) _ _ refl (c .match .keys5) (c .before .before .before .pre)
+
+short-dwords-requires-2 : tie.Need-short-dwords-requires-2
+unfolding ownDwords
+short-dwords-requires-2 c κs =
+    let a = c .before .before .before .args in
+    own-at _ 8 2 (lent (a .dw) (a .by)) _ _ refl (c .match .keys6) (c .before .before .before .pre)
 
 returns : tie.Need-returns
 returns c = as-kind _ 7 _ _ (c .before .match .keys1) (c .object-dwords .ensures)
@@ -48,13 +54,16 @@ returns-4 : tie.Need-returns-4
 returns-4 c = as-kind _ 5 _ _ (c .before .match .keys4) (c .load-dwords2 .ensures ∙ five-as-four _)
 
 returns-5 : tie.Need-returns-5
-returns-5 c = as-kind _ 6 _ _ (c .before .match .keys5) (c .flush-dwords .ensures)
+returns-5 c = as-kind _ 6 _ _ (c .before .match .keys5) (c .short-dwords .ensures)
 
 returns-6 : tie.Need-returns-6
-returns-6 c =
+returns-6 c = as-kind _ 8 _ _ (c .before .match .keys6) (c .short-dwords2 .ensures ∙ eight-as-six _)
+
+returns-7 : tie.Need-returns-7
+returns-7 c =
     let r = c .match .rest in
     let a = c .before .before .before .args in
-    head-one _ (r .0 .0 .0 .1) (r .0 .0 .1) (r .0 .1) (r .1) (r .0 .0 .0 .0 .1) _ (a .at) (lent (a .dw) (a .by)) (c .before .before .before .pre .2)
+    head-one _ (r .0 .0 .0 .0 .1) (r .0 .0 .0 .1) (r .0 .0 .1) (r .0 .1) (r .0 .0 .0 .0 .0 .1) (r .1) _ (a .at) (lent (a .dw) (a .by)) (c .before .before .before .pre .2)
 
 pub own-dwords-spec : {M : Type 1} → statement M
 own-dwords-spec =
@@ -64,10 +73,12 @@ own-dwords-spec =
     vfe-dwords-requires
     load-dwords-requires
     load-dwords-requires-2
-    flush-dwords-requires
+    short-dwords-requires
+    short-dwords-requires-2
     returns
     returns-2
     returns-3
     returns-4
     returns-5
-    returns-6)
+    returns-6
+    returns-7)

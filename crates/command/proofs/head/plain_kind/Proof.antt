@@ -6,15 +6,15 @@ use Rattle.command.proofs.head.plain_kind.Tie as tie
 
 returns : tie.Need-returns
 unfolding kindOf
-returns c = ap kindOf (sym (c .if1 .taken))
+returns c = ap (kindOf (c .before .args .chip)) (sym (c .if1 .taken))
 
 returns-2 : tie.Need-returns-2
 unfolding kindOf
-returns-2 c = ap kindOf (sym (c .if2 .taken))
+returns-2 c = ap (kindOf (c .before .before .args .chip)) (sym (c .if2 .taken))
 
 returns-3 : tie.Need-returns-3
 unfolding kindOf
-returns-3 c = ap kindOf (sym (c .if3 .taken))
+returns-3 c = ap (kindOf (c .before .before .before .args .chip)) (sym (c .if3 .taken))
 
 returns-4 : tie.Need-returns-4
 returns-4 c = search no-plain-kind

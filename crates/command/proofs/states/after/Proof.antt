@@ -1,6 +1,7 @@
 use borrow.Author.Tests.{ne-eqb}
 use Rattle.laws.proofs.BitRanges.{coded}
 use Rattle.command.specs.Order.{stateAfter}
+use Rattle.command.proofs.Order.{after-kind}
 use borrow.Author.Needs.{needs}
 use Rattle.command.proofs.states.after.Statement.{statement}
 use Rattle.command.proofs.states.after.Tie as tie
@@ -14,8 +15,8 @@ add-next-2 c = search needs
 array-read-next : tie.Need-array-read-next
 array-read-next c = search needs
 
-array-read-next-2 : tie.Need-array-read-next-2
-array-read-next-2 c = search needs
+after-vfe-requires : tie.Need-after-vfe-requires
+after-vfe-requires c κs = search needs
 
 returns : tie.Need-returns
 unfolding stateAfter
@@ -26,8 +27,7 @@ unfolding stateAfter
 returns-2 c = simp (coded, c .match .keys2)
 
 returns-3 : tie.Need-returns-3
-unfolding stateAfter
-returns-3 c = simp (coded, c .match .keys3)
+returns-3 c = after-kind _ 3 _ _ _ (c .before .match .keys3) (c .after-vfe .ensures)
 
 returns-4 : tie.Need-returns-4
 unfolding stateAfter
@@ -43,7 +43,11 @@ returns-6 c = simp (coded, c .match .keys6)
 
 returns-7 : tie.Need-returns-7
 unfolding stateAfter
-returns-7 c = simp (ne-eqb _ _ (c .match .rest .1), ne-eqb _ _ (c .match .rest .0 .1), ne-eqb _ _ (c .match .rest .0 .0 .1), ne-eqb _ _ (c .match .rest .0 .0 .0 .1), ne-eqb _ _ (c .match .rest .0 .0 .0 .0 .1), ne-eqb _ _ (c .match .rest .0 .0 .0 .0 .0 .1))
+returns-7 c = simp (coded, c .match .keys7)
+
+returns-8 : tie.Need-returns-8
+unfolding stateAfter
+returns-8 c = simp (ne-eqb _ _ (c .match .rest .0 .0 .0 .0 .0 .0 .1), ne-eqb _ _ (c .match .rest .1), ne-eqb _ _ (c .match .rest .0 .1), ne-eqb _ _ (c .match .rest .0 .0 .1), ne-eqb _ _ (c .match .rest .0 .0 .0 .1), ne-eqb _ _ (c .match .rest .0 .0 .0 .0 .1), ne-eqb _ _ (c .match .rest .0 .0 .0 .0 .0 .1))
 
 pub after-spec : {M : Type 1} → statement M
 after-spec =
@@ -51,12 +55,13 @@ after-spec =
     (tie.spec
     add-next
     add-next-2
+    after-vfe-requires
     array-read-next
-    array-read-next-2
     returns
     returns-2
     returns-3
     returns-4
     returns-5
     returns-6
-    returns-7)
+    returns-7
+    returns-8)

@@ -5,8 +5,8 @@ use native.Mathlib.Omega.{arith}
 use borrow.Author.Needs.{needs}
 use lib.ListN.{length}
 use Rattle.io.proofs.Counting.{counts}
-use Rattle.mpl_list.proofs.read_input.Statement.{statement}
-use Rattle.mpl_list.proofs.read_input.Tie as tie
+use Rattle.lister.proofs.read_input.Statement.{statement}
+use Rattle.lister.proofs.read_input.Tie as tie
 
 abbrev Inv-loop : tie.InvT-loop
 Inv-loop buf₀ done₀ buf done = (length buf ≡ length buf₀) × (done ≤ length buf)

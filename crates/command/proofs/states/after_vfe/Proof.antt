@@ -1,0 +1,18 @@
+use Rattle.laws.proofs.BitRanges.{coded}
+use Rattle.command.specs.Order.{stateAfter}
+use borrow.Author.Needs.{needs}
+use Rattle.command.proofs.states.after_vfe.Statement.{statement}
+use Rattle.command.proofs.states.after_vfe.Tie as tie
+
+add-next : tie.Need-add-next
+add-next c = search needs
+
+array-read-next : tie.Need-array-read-next
+array-read-next c = search needs
+
+returns : tie.Need-returns
+unfolding stateAfter
+returns c = simp coded
+
+pub after-vfe-spec : {M : Type 1} → statement M
+after-vfe-spec = tie.close (tie.spec add-next array-read-next returns)
