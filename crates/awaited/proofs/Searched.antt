@@ -15,10 +15,10 @@ use Rattle.laws.proofs.Find.{find-at, find-before, none-next, found, none}
 use Rattle.deltas.specs.Reach.{rowsOf}
 use Rattle.deltas.proofs.Reached.{rows-long}
 use Rattle.objects.specs.declared.Candidate.{Candidate}
-use Rattle.objects.specs.Recorded.{wordAt, isObject, candidateOf, deltaTo, reachedAt}
-use Rattle.objects.proofs.RecordWords.{unreached}
+use Rattle.objects.specs.Recorded.{wordAt, isObject, candidateOf, deltaTo, nearAt, reachedAt}
+use Rattle.objects.proofs.RecordWords.{far-unreached, unreached}
 use Rattle.awaited.specs.declared.Stretch.{Stretch}
-use Rattle.awaited.specs.Search.{unfinishedAt, unfinishedRecord, awaitedRecord, NoneIn, oneOfFour, Passed, QuickTest, Crossed, pastOf, keptOf}
+use Rattle.awaited.specs.Search.{unfinishedAt, unfinishedRecord, awaitedRecord, NoneIn, testedAt, oneOfFour, Passed, QuickTest, Crossed, pastOf, keptOf}
 
 pub and-false-left : (a b : Bool) → a ≡ false → a && b ≡ false
 and-false-left a b e = ap (λ (t : Bool). t && b) e
@@ -89,6 +89,38 @@ passed-next f a b r s t h e q es l =
       within = omega arith;
       none = λ i p z. stretch-next f a r (h .none) (sym e ∙ q) i p (omega arith);
     }
+
+-- the test, by whether it is whole
+pub tested-whole : (w : Bool) (d : List ℕ) (corner : ℕ) (rows : List ℕ) (r : ℕ) (t : Bool) → w ≡ true → t ≡ reachedAt d corner rows r
+    → t ≡ testedAt w d corner rows r
+unfolding testedAt
+tested-whole w d corner rows r t q e = e ∙ sym (ap (λ (b : Bool). cond b (reachedAt d corner rows r) (nearAt d corner r)) q)
+
+pub tested-half : (w : Bool) (d : List ℕ) (corner : ℕ) (rows : List ℕ) (r : ℕ) (t : Bool) → w ≡ false → t ≡ nearAt d corner r
+    → t ≡ testedAt w d corner rows r
+unfolding testedAt
+tested-half w d corner rows r t q e = e ∙ sym (ap (λ (b : Bool). cond b (reachedAt d corner rows r) (nearAt d corner r)) q)
+
+half-unreached : (w : Bool) (d : List ℕ) (corner : ℕ) (rows : List ℕ) (r : ℕ) → testedAt w d corner rows r ≡ false
+    → reachedAt d corner rows r ≡ false
+unfolding testedAt
+half-unreached true d corner rows r e = e
+half-unreached false d corner rows r e = far-unreached d corner rows r e
+
+-- records passed over by one leap, then by another, fail the whole test
+module _ (d : List ℕ) (corner : ℕ) (rows : List ℕ) (a b r : ℕ) where
+  abbrev f : Bool → ℕ → Bool
+  f w = testedAt w d corner rows
+
+  pub passed-both : (w v : Bool) (s : ℕ) → Passed (f w) a b r → Passed (f v) r b s → Passed (reachedAt d corner rows) a b s
+  passed-both w v s h k =
+      record {
+        after = let x = h .after in let y = k .after in omega arith;
+        within = k .within;
+        none = λ i p q.
+            by-test (ltb i r) (λ t. half-unreached w d corner rows i (h .none i p (ltb-true i r t)))
+            (λ t. half-unreached v d corner rows i (k .none i (ltb-false i r t) q));
+      }
 
 -- four of them at a time
 module _ (f : ℕ → Bool) (r : ℕ) (s : Bool) (es : s ≡ f r) where

@@ -9,7 +9,7 @@ use lib.Dec.{ltb, eqb}
 use lib.ListN.{length, getD}
 use Rattle.laws.specs.Find.{findFirst}
 use Rattle.objects.specs.declared.Candidate.{Candidate}
-use Rattle.objects.specs.Recorded.{wordAt, isObject, RecordIn, deltaTo, reachedAt}
+use Rattle.objects.specs.Recorded.{wordAt, isObject, RecordIn, deltaTo, nearAt, reachedAt}
 use Rattle.awaited.specs.declared.Stretch.{Stretch}
 use Rattle.awaited.specs.declared.Found.{Found}
 
@@ -28,6 +28,11 @@ awaitedRecord d states c r = unfinishedRecord d states r && ltb (deltaTo d c r) 
 -- f holds nowhere from a up to b
 abbrev pub NoneIn : (ℕ → Bool) → ℕ → ℕ → Type 0
 NoneIn f a b = (r : ℕ) → a ≤ r → r < b → f r ≡ false
+
+-- is record r within reach or, by half of that test, near? Whichever it is, what fails the half fails the whole (`half-unreached` of
+-- proofs/Searched.antt).
+unfoldable pub testedAt : Bool → List ℕ → ℕ → List ℕ → ℕ → Bool
+testedAt whole d corner rows r = cond whole (reachedAt d corner rows r) (nearAt d corner r)
 
 -- does f hold at one of the four from r on?
 unfoldable pub oneOfFour : (ℕ → Bool) → ℕ → Bool

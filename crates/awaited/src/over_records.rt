@@ -4,8 +4,8 @@ ghost use Prim.Native.Nat.{_+_, _<_, _≤_};
 ghost use lib.ListN.{length};
 ghost use Rattle.words.specs.Dwords.{lent};
 ghost use Rattle.laws.specs.Find.{findFirst, NoneBelow};
-ghost use Rattle.objects.specs.Recorded.{candidateOf, reachedAt};
-ghost use Rattle.awaited.specs.Search.{unfinishedRecord, awaitedRecord, oneOfFour, Passed, RecordsIn, QuickTest};
+ghost use Rattle.objects.specs.Recorded.{RecordIn, candidateOf, reachedAt};
+ghost use Rattle.awaited.specs.Search.{unfinishedRecord, awaitedRecord, testedAt, oneOfFour, Passed, RecordsIn, QuickTest};
 ghost use Rattle.awaited.specs.Search.{StateIn, StatesIn, Crossed, BlockEnd, pastOf, keptOf, Finds};
 use crate::Found;
 use crate::Stretch;
@@ -13,6 +13,7 @@ use deltas::reach::set_rows;
 use objects::Candidate;
 use objects::recorded::delta_to;
 use objects::recorded::is_object;
+use objects::recorded::near;
 use objects::recorded::number;
 use objects::recorded::reached;
 
@@ -38,31 +39,50 @@ fn awaited(rd: &[u32], rb: &[u8], states: &[u8], c: Candidate, r: usize) -> bool
     delta_to(rd, rb, c, r) < 8
 }
 
-// Is one of the four records from r on within reach?
-fn four_reached(rd: &[u32], rb: &[u8], corner: u64, rows: &[u32], r: usize) -> bool
-    requires { ⌜ RecordsIn (lent rd rb) (r + 4) × (length (now rows) ≡ 16) ⌝ }
-    ensures { λ t. ⌜ t ≡ oneOfFour (reachedAt (lent (rd .entry) (rb .entry)) corner (now (rows .entry))) r ⌝ }
+// Is record r within reach or, by half of that test, near?
+fn tested(rd: &[u32], rb: &[u8], whole: bool, corner: u64, rows: &[u32], r: usize) -> bool
+    requires { ⌜ RecordIn (lent rd rb) r × (length (now rows) ≡ 16) ⌝ }
+    ensures { λ t. ⌜ t ≡ testedAt whole (lent (rd .entry) (rb .entry)) corner (now (rows .entry)) r ⌝ }
 {
-    if reached(rd, rb, corner, rows, r) {
-        return true;
+    if whole {
+        return reached(rd, rb, corner, rows, r);
     }
-    if reached(rd, rb, corner, rows, r + 1) {
-        return true;
-    }
-    if reached(rd, rb, corner, rows, r + 2) {
-        return true;
-    }
-    reached(rd, rb, corner, rows, r + 3)
+    near(rd, rb, corner, r)
 }
 
-// Passes over records out of reach, four at a time: most are, and the loop costs as much as the test.
-fn leap(rd: &[u32], rb: &[u8], corner: u64, rows: &[u32], from: usize, to: usize) -> usize
+// Is one of the four records from r on?
+fn four_tested(rd: &[u32], rb: &[u8], whole: bool, corner: u64, rows: &[u32], r: usize) -> bool
+    requires { ⌜ RecordsIn (lent rd rb) (r + 4) × (length (now rows) ≡ 16) ⌝ }
+    ensures { λ t. ⌜ t ≡ oneOfFour (testedAt whole (lent (rd .entry) (rb .entry)) corner (now (rows .entry))) r ⌝ }
+{
+    if tested(rd, rb, whole, corner, rows, r) {
+        return true;
+    }
+    if tested(rd, rb, whole, corner, rows, r + 1) {
+        return true;
+    }
+    if tested(rd, rb, whole, corner, rows, r + 2) {
+        return true;
+    }
+    tested(rd, rb, whole, corner, rows, r + 3)
+}
+
+// Passes over records that are not, four at a time: most are not, and the loop costs as much as the test.
+fn leap(
+    rd: &[u32],
+    rb: &[u8],
+    whole: bool,
+    corner: u64,
+    rows: &[u32],
+    from: usize,
+    to: usize,
+) -> usize
     requires { ⌜ RecordsIn (lent rd rb) to × (from ≤ to) × (length (now rows) ≡ 16) ⌝ }
-    ensures { λ r. ⌜ Passed (reachedAt (lent (rd .entry) (rb .entry)) corner (now (rows .entry))) from to r ⌝ }
+    ensures { λ r. ⌜ Passed (testedAt whole (lent (rd .entry) (rb .entry)) corner (now (rows .entry))) from to r ⌝ }
 {
     let mut r = from;
     while 4 <= to - r {
-        if four_reached(rd, rb, corner, rows, r) {
+        if four_tested(rd, rb, whole, corner, rows, r) {
             return r;
         }
         r += 4;
@@ -70,12 +90,14 @@ fn leap(rd: &[u32], rb: &[u8], corner: u64, rows: &[u32], from: usize, to: usize
     r
 }
 
-// The same up to the first within reach, or to `to`.
+// The first record within reach, or `to`. Those that are not even near are passed over first; whether the test is a whole one is a constant
+// in each call, so that each gets a loop of its own.
 fn first_reached(rd: &[u32], rb: &[u8], corner: u64, rows: &[u32], from: usize, to: usize) -> usize
     requires { ⌜ RecordsIn (lent rd rb) to × (from ≤ to) × (length (now rows) ≡ 16) ⌝ }
     ensures { λ r. ⌜ Passed (reachedAt (lent (rd .entry) (rb .entry)) corner (now (rows .entry))) from to r ⌝ }
 {
-    let mut r = leap(rd, rb, corner, rows, from, to);
+    let far = leap(rd, rb, false, corner, rows, from, to);
+    let mut r = leap(rd, rb, true, corner, rows, far, to);
     while r < to {
         if reached(rd, rb, corner, rows, r) {
             return r;

@@ -12,7 +12,7 @@ use lib.Dec.{T, eqb, eqb→eq, lit<}
 use lib.ListN.{length, getD, set, replicate, length-set, length-replicate}
 use lib.Pow.{shl-shr, shl-exact, high, low}
 use lib.Seq.{getD-set-same, getD-set-other}
-use borrow.Author.Tests.{eq-eqb, ne-eqb, eqb-true, eqb-false}
+use borrow.Author.Tests.{eq-eqb, ne-eqb, eqb-true, eqb-false, not-true, not-false}
 use Rattle.laws.specs.BitRanges.{bits, field, anySet, maskOf}
 use Rattle.laws.proofs.BitRanges.{marked}
 use Rattle.laws.proofs.Choices.{by-test, and-left, and-right, not-both}
@@ -22,7 +22,7 @@ use Rattle.deltas.specs.Deltas.{deltaX, deltaY}
 use Rattle.deltas.specs.InPlay.{bitSet}
 use Rattle.deltas.specs.Meets.{reaches, meetsAt}
 use Rattle.deltas.specs.Lowest.{leadsAt, lowestAt, deltaByte}
-use Rattle.deltas.specs.Reach.{placeOf, less, furthestBack, cornerOf, columnOf, rowOf, withDelta, rowsTo, rowsOf, beyond, reachedFrom}
+use Rattle.deltas.specs.Reach.{placeOf, less, furthestBack, cornerOf, columnOf, rowOf, withDelta, rowsTo, rowsOf, beyond, nearTo, reachedFrom}
 use Rattle.deltas.proofs.Masks.{all, below}
 use Rattle.deltas.proofs.Bytes.{unless, bit, bits-above, led, lowHalf, highHalf, low-small, high-small, byte-halves}
 
@@ -35,28 +35,36 @@ pub corner-is : (x y p r : ℕ) → r < 2 ^ 64 → p ≡ placeOf x y → (r + fu
 unfolding cornerOf
 corner-is x y p r h e q = less-is r (placeOf x y) furthestBack h (omega arith) (q ∙ e)
 
--- what `reached` shows
-module _ (corner place off : ℕ) (rows : List ℕ) (ho : off < 2 ^ 64) (hc : corner < 2 ^ 64) (eo : (off + corner) % 2 ^ 64 ≡ place) where
+twice : (t : Bool) → not (not t) ≡ t
+twice true = refl
+twice false = refl
+
+-- LAW: what is not near is not reached
+pub far-unreached : (corner place : ℕ) (rows : List ℕ) → nearTo corner place ≡ false → reachedFrom corner rows place ≡ false
+unfolding reachedFrom
+far-unreached corner place rows e =
+    ap (λ (t : Bool). t && bitSet (less place corner % 16) (getD rows (less place corner / 2 ^ 32 % 16) 0)) e
+
+-- what `near` and `reached` show: off is how far the place is from the corner, t whether that is near
+module _ (corner place off : ℕ) (ho : off < 2 ^ 64) (hc : corner < 2 ^ 64) (eo : (off + corner) % 2 ^ 64 ≡ place) where
   is-off : less place corner ≡ off
   is-off = sym (less-is off place corner ho hc eo)
 
-  beyond-is : anySet beyond (less place corner) ≡ not (eqb (bitAnd off (maskOf beyond)) 0)
-  beyond-is = ap (anySet beyond) is-off ∙ marked beyond off tt
+  pub near-is : eqb (bitAnd off (maskOf beyond)) 0 ≡ nearTo corner place
+  near-is = sym (ap not (ap (anySet beyond) is-off ∙ marked beyond off tt) ∙ twice (eqb (bitAnd off (maskOf beyond)) 0))
 
-  pub reached-off : (bitAnd off (maskOf beyond) ≡ 0 → ⊥) → false ≡ reachedFrom corner rows place
-  unfolding reachedFrom
-  reached-off n = simp (beyond-is, ne-eqb (bitAnd off (maskOf beyond)) 0 n)
-
-  pub reached-on : bitAnd off (maskOf beyond) ≡ 0
+  pub reached-on : (rows : List ℕ) (t : Bool) → t ≡ nearTo corner place → not t ≡ false
       → eqb (bitAnd (getD rows (bitAnd (off / 4294967296) 15) 0 / 2 ^ bitAnd off 15) 1) 1 ≡ reachedFrom corner rows place
   unfolding reachedFrom
-  reached-on e =
-      let k : anySet beyond (less place corner) ≡ false = beyond-is ∙ ap not (eq-eqb (bitAnd off (maskOf beyond)) 0 e) in
+  reached-on rows t e q =
       ap (λ (n : ℕ). eqb n 1)
       (ap₂ (λ (i m : ℕ). bitAnd (m / 2 ^ i) 1) (and-mask off 4) (ap (λ (j : ℕ). getD rows j 0) (and-mask (off / 4294967296) 4))
       ∙ sym (bit (off % 16) (getD rows (off / 2 ^ 32 % 16) 0)))
       ∙ ap (λ (o : ℕ). bitSet (o % 16) (getD rows (o / 2 ^ 32 % 16) 0)) (sym is-off)
-      ∙ sym (ap (λ (t : Bool). not t && bitSet (less place corner % 16) (getD rows (less place corner / 2 ^ 32 % 16) 0)) k)
+      ∙ sym (ap (λ (b : Bool). b && bitSet (less place corner % 16) (getD rows (less place corner / 2 ^ 32 % 16) 0)) (sym e ∙ not-false t q))
+
+pub reached-off : (corner place : ℕ) (rows : List ℕ) (t : Bool) → t ≡ nearTo corner place → not t ≡ true → false ≡ reachedFrom corner rows place
+reached-off corner place rows t e q = sym (far-unreached corner place rows (sym e ∙ not-true t q))
 
 -- what `mark` shows: 8 more in each half of a byte, by one test of all bytes
 abbrev cell-right : ℕ → Bool

@@ -50,8 +50,12 @@ rowsOf mask d6 d7 = rowsTo mask d6 d7 8
 abbrev pub beyond : List Bits
 beyond = bits 63 36 ∷ bits 31 4 ∷ []
 
+-- is it less than that in both?
+abbrev pub nearTo : ℕ → ℕ → Bool
+nearTo corner place = not (anySet beyond (less place corner))
+
 -- is the bit set for a place?
 unfoldable pub reachedFrom : ℕ → List ℕ → ℕ → Bool
 reachedFrom corner rows place =
     let off = less place corner in
-    not (anySet beyond off) && bitSet (off % 16) (getD rows (off / 2 ^ 32 % 16) 0)
+    nearTo corner place && bitSet (off % 16) (getD rows (off / 2 ^ 32 % 16) 0)

@@ -2,7 +2,7 @@
 ghost use mathlib.Core.Path.{_≡_};
 ghost use Prim.Native.Nat.{_<_};
 ghost use lib.ListN.{length, replicate};
-ghost use Rattle.deltas.specs.Reach.{placeOf, cornerOf, withDelta, rowsOf, reachedFrom};
+ghost use Rattle.deltas.specs.Reach.{placeOf, cornerOf, withDelta, rowsOf, nearTo, reachedFrom};
 use crate::table::delta_byte;
 use std::num::wrapping_sub_u64;
 
@@ -48,14 +48,21 @@ pub fn set_rows(rows: &mut [u32; 16], mask: u32, d6: u32, d7: u32)
     }
 }
 
+// Is a place less than 16 from the corner, in X and in Y? No delta leads to any other.
+pub fn near(corner: u64, place: u64) -> bool
+    ensures { λ r. ⌜ r ≡ nearTo corner place ⌝ }
+{
+    wrapping_sub_u64(place, corner) & 0xffff_fff0_ffff_fff0 == 0
+}
+
 // Is the bit set for a place?
 pub fn reached(corner: u64, rows: &[u32], place: u64) -> bool
     requires { ⌜ length (now rows) ≡ 16 ⌝ }
     ensures { λ r. ⌜ r ≡ reachedFrom corner (now (rows .entry)) place ⌝ }
 {
-    let off = wrapping_sub_u64(place, corner);
-    if off & 0xffff_fff0_ffff_fff0 != 0 {
+    if !near(corner, place) {
         return false;
     }
+    let off = wrapping_sub_u64(place, corner);
     (rows[((off >> 32) & 15) as usize] >> (off & 15) as u32) & 1 == 1
 }

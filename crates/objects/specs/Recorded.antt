@@ -9,7 +9,7 @@ use lib.ListN.{length, getD, drop}
 use Rattle.records.specs.Records.{slot}
 use Rattle.deltas.specs.InPlay.{usesScoreboard, typeOf, joinedMask}
 use Rattle.deltas.specs.Lowest.{lowestAt}
-use Rattle.deltas.specs.Reach.{placeOf, cornerOf, reachedFrom}
+use Rattle.deltas.specs.Reach.{placeOf, cornerOf, nearTo, reachedFrom}
 use Rattle.objects.specs.declared.Candidate.{Candidate}
 use Rattle.objects.specs.Objects.{Object, objectWith, objectAt}
 
@@ -105,6 +105,11 @@ unfoldable pub deltaTo : List ℕ → Candidate → ℕ → ℕ
 deltaTo d c r =
     cond (usesScoreboard (wordAt d r 4) (vfeWordAt d r 8) && eqb (wordAt d r 9) (c .colour))
     (lowestAt (c .x) (c .y) (c .mask) (c .d6) (c .d7) (wordAt d r 7) (wordAt d r 8)) 8
+
+-- is the object of record r near enough for a delta to lead there? One that is not fails the quick test (`far-unreached` of
+-- proofs/RecordWords.antt).
+unfoldable pub nearAt : List ℕ → ℕ → ℕ → Bool
+nearAt d corner r = nearTo corner (placeOf (wordAt d r 7) (wordAt d r 8))
 
 -- does the object of record r pass the quick test? One that does not is nobody whom a delta of the candidate leads to (`unreached` of
 -- proofs/RecordWords.antt).

@@ -3,7 +3,7 @@ ghost use mathlib.Core.Path.{_≡_};
 ghost use lib.ListN.{length};
 ghost use Rattle.words.specs.Dwords.{lent};
 ghost use Rattle.objects.specs.Recorded.{RecordIn, wordAt, isObject, stallsAt, candidateOf, deltaTo};
-ghost use Rattle.objects.specs.Recorded.{maskAt, cornerAt, reachedAt};
+ghost use Rattle.objects.specs.Recorded.{maskAt, cornerAt, nearAt, reachedAt};
 use crate::Candidate;
 use crate::record_words::record_word;
 use crate::record_words::vfe_word;
@@ -76,6 +76,17 @@ pub fn candidate(rd: &[u32], rb: &[u8], r: usize) -> Candidate
         d7: vfe_word(rd, rb, r, 10),
         corner: corner(rd, rb, r),
     }
+}
+
+// Is the object of record r near enough to the candidate of a corner for any delta to lead there?
+pub fn near(rd: &[u32], rb: &[u8], corner: u64, r: usize) -> bool
+    requires { ⌜ RecordIn (lent rd rb) r ⌝ }
+    ensures { λ t. ⌜ t ≡ nearAt (lent (rd .entry) (rb .entry)) corner r ⌝ }
+{
+    reach::near(
+        corner,
+        place(record_word(rd, rb, r, 7), record_word(rd, rb, r, 8)),
+    )
 }
 
 // A quick test of the object of record r, which most objects fail: no delta of the candidate leads to one that does. The corner is the

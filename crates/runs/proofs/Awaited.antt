@@ -17,18 +17,12 @@ use Rattle.awaited.specs.Search.{unfinishedAt, unfinishedRecord, awaitedRecord,
 use Rattle.awaited.proofs.Searched.{and-false-left, and-false-right, finished-unawaited, find-most}
 use Rattle.runs.specs.declared.Verdict.{Verdict}
 use Rattle.runs.specs.Run.{waitsFor, lowestWaited, fault, noFault}
-use Rattle.runs.specs.Starts.{waitVerdict, namedAt, Known}
+use Rattle.runs.specs.Starts.{waitVerdict, Known}
 use Rattle.runs.proofs.Searches.{known-small, waits-by-delta, delta-lowest, waits-none}
 
--- what `named` shows: the search ended at record r
-module _ (d : List ℕ) (c : Candidate) (own r : ℕ) where
-  pub named-none : r ≡ own → noFault ≡ namedAt d c own r
-  unfolding namedAt
-  named-none e = simp (eq-eqb r own e)
-
-  pub named-one : (j i : ℕ) → (r ≡ own → ⊥) → j ≡ wordAt d r 15 → i ≡ deltaTo d c r → fault 25 j i ≡ namedAt d c own r
-  unfolding namedAt
-  named-one j i n ej ei = ap₂ (fault 25) ej ei ∙ simp (ne-eqb r own n)
+-- what `named` shows of record r
+pub named-is : (d : List ℕ) (c : Candidate) (r j i : ℕ) → j ≡ wordAt d r 15 → i ≡ deltaTo d c r → fault 25 j i ≡ fault 25 (wordAt d r 15) (deltaTo d c r)
+named-is d c r j i ej ei = ap₂ (fault 25) ej ei
 
 -- the records that a search goes over have numbers of objects
 pub states-in : (d : List ℕ) (n : ℕ) (states : List ℕ) (k own : ℕ) → Known d n states k → Holds d n k own → StatesIn d states own
@@ -135,12 +129,14 @@ module _ (d : List ℕ) (n : ℕ) (states : List ℕ) (k own : ℕ) (h : Known d
           let z : r ≡ own = omega (arith, search-most) in
           omega (arith, ap (λ (i : ℕ). wordAt d i 15) z, holds-number d n (h .numbered) k own hk, known-small d n states k h))
 
-      pub search-verdict : (v : Verdict) → v ≡ namedAt d t own r → v ≡ waitVerdict (objectsRecorded d n) states k
-      unfolding namedAt
-      search-verdict v e = e ∙ ap (λ (x : Candidate). namedAt d x own r) et ∙ go (eqb r own) refl
-        where
-          go : (b : Bool) → eqb r own ≡ b → cond b noFault (fault 25 (wordAt d r 15) (deltaTo d (candidateOf d own) r)) ≡ waitVerdict (objectsRecorded d n) states k
-          go true q =
-              let z : r ≡ own = eqb-true r own q in
-              named-nobody d n states k own h hk (λ i l. find-before (awaitedRecord d states (candidateOf d own)) own i (omega (arith, search-is))) noFault refl
-          go false q = let z = eqb-false r own q in named-there d n states k own h hk r search-is (omega (arith, search-most))
+      -- the search ended at its own record, or before it
+      pub search-nobody : r ≡ own → noFault ≡ waitVerdict (objectsRecorded d n) states k
+      search-nobody e =
+          named-nobody d n states k own h hk
+          (λ i l. find-before (awaitedRecord d states (candidateOf d own)) own i (omega (arith, search-is))) noFault refl
+
+      pub search-verdict : (v : Verdict) → (r ≡ own → ⊥) → v ≡ fault 25 (wordAt d r 15) (deltaTo d t r)
+          → v ≡ waitVerdict (objectsRecorded d n) states k
+      search-verdict v z e =
+          e ∙ ap (λ (x : Candidate). fault 25 (wordAt d r 15) (deltaTo d x r)) et
+          ∙ named-there d n states k own h hk r search-is (omega (arith, search-most))

@@ -33,10 +33,6 @@ startVerdict objects states k =
 abbrev pub waitingAt : List ℕ → ℕ → Bool
 waitingAt states j = waiting (stateAt states j)
 
--- what 25 names for the candidate of record own, where the first record awaited is r
-unfoldable pub namedAt : List ℕ → Candidate → ℕ → ℕ → Verdict
-namedAt d c own r = cond (eqb r own) noFault (fault 25 (wordAt d r 15) (deltaTo d c r))
-
 -- the records hold so many objects, and each has a state byte
 pub record Running (d : List ℕ) (n objects : ℕ) (states : List ℕ) : Type 0 where
   pub records : Records d n

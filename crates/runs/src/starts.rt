@@ -4,10 +4,10 @@ ghost use Prim.Native.Nat.{_<_, _≤_, min};
 ghost use lib.ListN.{length};
 ghost use Rattle.words.specs.Dwords.{lent};
 ghost use Rattle.laws.specs.Find.{findFirst, NoneBelow};
-ghost use Rattle.objects.specs.Recorded.{RecordIn, wordAt, objectsRecorded, Holds};
+ghost use Rattle.objects.specs.Recorded.{RecordIn, wordAt, deltaTo, objectsRecorded, Holds};
 ghost use Rattle.awaited.specs.Search.{unfinishedAt};
 ghost use Rattle.runs.specs.Run.{stateAt, lowestWaiting, fault};
-ghost use Rattle.runs.specs.Starts.{waitVerdict, startVerdict, waitingAt, namedAt, Known};
+ghost use Rattle.runs.specs.Starts.{waitVerdict, startVerdict, waitingAt, Known};
 ghost use Rattle.runs.specs.Starts.{SoundCursors, nearestOf, Judges};
 use crate::Cursors;
 use crate::Judgement;
@@ -67,18 +67,11 @@ pub fn unnamed(number: u32, cursors: Cursors) -> Judgement
     }
 }
 
-// Row 25 for the candidate of record own, where the search for whom it waits for ended at record r.
-fn named(rd: &[u32], rb: &[u8], c: Candidate, own: usize, r: usize) -> Verdict
+// Row 25 for a candidate that waits for the object of record r.
+fn named(rd: &[u32], rb: &[u8], c: Candidate, r: usize) -> Verdict
     requires { ⌜ RecordIn (lent rd rb) r × (wordAt (lent rd rb) r 15 < 16384) ⌝ }
-    ensures { λ v. ⌜ v ≡ namedAt (lent (rd .entry) (rb .entry)) c own r ⌝ }
+    ensures { λ v. ⌜ v ≡ fault 25 (wordAt (lent (rd .entry) (rb .entry)) r 15) (deltaTo (lent (rd .entry) (rb .entry)) c r) ⌝ }
 {
-    if r == own {
-        return Verdict {
-            number: 0,
-            object: 0,
-            delta: 0,
-        };
-    }
     Verdict {
         number: 25,
         object: number(rd, rb, r) as u32,
@@ -139,9 +132,13 @@ fn waits(
     let at = record_of(rd, rb, n, c.unfinished, u);
     let t = candidate(rd, rb, own);
     let f = find(rd, rb, states, c.crossed, t, at, own);
+    let cursors = searched(c, u, at, f.crossed);
+    if f.at == own {
+        return unnamed(0, cursors);
+    }
     Judgement {
-        verdict: named(rd, rb, t, own, f.at),
-        cursors: searched(c, u, at, f.crossed),
+        verdict: named(rd, rb, t, f.at),
+        cursors,
     }
 }
 

@@ -1,7 +1,7 @@
 use native.Mathlib.Omega.{arith}
 use mathlib.Core.Path.{refl, sym, _∙_}
 use Rattle.awaited.proofs.Searched.{find-least}
-use Rattle.runs.proofs.Awaited.{states-in, first-most, first-off, nobody-left, search-from, search-in, search-small, search-verdict}
+use Rattle.runs.proofs.Awaited.{states-in, first-most, first-off, nobody-left, search-from, search-in, search-small, search-nobody, search-verdict}
 use Rattle.runs.proofs.Searches.{waits-nobody}
 use Rattle.runs.proofs.StartRows.{searched-sound, unnamed-judges}
 use borrow.Author.Needs.{needs}
@@ -51,22 +51,34 @@ find-requires c κs =
     let e = c .candidate .ensures in
     (states-in _ _ _ _ _ (p .0) (p .1), e, omega (arith, p .1 .below, p .0 .records .limit), p .3 .crossed, search-from _ _ _ _ _ (p .0) (p .1) _ e _ _ u (c .before .record-of .ensures))
 
-named-requires : tie.Need-named-requires
-named-requires c κs =
-    let p = c .before .before .before .before .before .before .before .before .before .before .pre in
-    let e = c .before .candidate .ensures in
-    (search-in _ _ _ _ _ (p .0) (p .1) _ e _ (c .find .ensures .first), search-small _ _ _ _ _ (p .0) (p .1) _ e _ (c .find .ensures .first))
-
 searched-requires-2 : tie.Need-searched-requires-2
 searched-requires-2 c κs = search needs
 
+unnamed-requires-3 : tie.Need-unnamed-requires-3
+unnamed-requires-3 c κs = search needs
+
 returns-3 : tie.Need-returns-3
 returns-3 c =
-    let p = c .before .before .before .before .before .before .before .before .before .before .before .before .pre in
-    let f = c .before .before .find .ensures in
+    let p = c .before .before .before .before .before .before .before .before .before .before .before .before .before .before .pre in
+    let f = c .before .before .before .before .find .ensures in
+    unnamed-judges _ _ _ _ _ _ _ (c .unnamed3 .ensures)
+    (searched-sound _ _ _ _ _ (p .3) _ _ _ (c .before .before .before .searched2 .ensures) (first-off _ _ _ _ _ (p .0) (p .1) _ (c .before .before .before .before .before .before .before .before .first-unfinished .ensures)) (c .before .before .before .before .before .before .record-of .ensures) (f .crossed))
+    (search-nobody _ _ _ _ _ (p .0) (p .1) _ (c .before .before .before .before .before .candidate .ensures) _ (f .first) (c .before .if3 .taken))
+
+named-requires : tie.Need-named-requires
+named-requires c κs =
+    let p = c .before .before .before .before .before .before .before .before .before .before .before .before .before .pre in
+    let e = c .before .before .before .before .candidate .ensures in
+    let f = c .before .before .before .find .ensures in
+    (search-in _ _ _ _ _ (p .0) (p .1) _ e _ (f .first), search-small _ _ _ _ _ (p .0) (p .1) _ e _ (f .first))
+
+returns-4 : tie.Need-returns-4
+returns-4 c =
+    let p = c .before .before .before .before .before .before .before .before .before .before .before .before .before .before .pre in
+    let f = c .before .before .before .before .find .ensures in
     record {
-      verdict = search-verdict _ _ _ _ _ (p .0) (p .1) _ (c .before .before .before .candidate .ensures) _ (f .first) _ (c .before .named .ensures);
-      cursors = searched-sound _ _ _ _ _ (p .3) _ _ _ (c .searched2 .ensures) (first-off _ _ _ _ _ (p .0) (p .1) _ (c .before .before .before .before .before .before .first-unfinished .ensures)) (c .before .before .before .before .record-of .ensures) (f .crossed);
+      verdict = search-verdict _ _ _ _ _ (p .0) (p .1) _ (c .before .before .before .before .before .candidate .ensures) _ (f .first) _ (c .before .if3 .left) (c .named .ensures);
+      cursors = searched-sound _ _ _ _ _ (p .3) _ _ _ (c .before .before .before .searched2 .ensures) (first-off _ _ _ _ _ (p .0) (p .1) _ (c .before .before .before .before .before .before .before .before .first-unfinished .ensures)) (c .before .before .before .before .before .before .record-of .ensures) (f .crossed);
     }
 
 pub waits-spec : {M : Type 1} → statement M
@@ -83,6 +95,8 @@ waits-spec =
     record-of-requires
     candidate-requires
     find-requires
-    named-requires
     searched-requires-2
-    returns-3)
+    unnamed-requires-3
+    returns-3
+    named-requires
+    returns-4)
