@@ -33,8 +33,8 @@ extern "C" {
 #endif
 
 /*
- * The chips. They differ in their must-be-zero bits (number 6: those of the chip's own manual) and in MEDIA_GATEWAY_STATE, which Gen6 alone
- * knows. All else that stands below is of both.
+ * The chips. They differ in their must-be-zero bits (number 6: those of the chip's own manual; docs/LISTING.md has the bits that differ)
+ * and in MEDIA_GATEWAY_STATE, which Gen6 alone knows. All else below holds for both.
  */
 enum {
     MPL_GEN6 = 6,
@@ -149,9 +149,10 @@ struct mpl_batch mpl_check_batch(uint32_t chip, const uint8_t *batch, size_t bat
                                  size_t records_len);
 
 /*
- * Why a run is turned away; 1 to 10, 17 and 18 are the batch's, 17 also the run's. 22, 24 and 25 are of a start, 23 of a finish; "it" is
- * the object started. An object uses a scoreboard where its own bit and its VFE's enable are both set. It waits for each object before it
- * in the batch that is unfinished, uses a scoreboard, has its colour, and whose X and Y are its own plus a delta in play, as whole numbers.
+ * Why a run is turned away; 1 to 10 and 17 are the batch's, 17 also the run's, 18 the chip's. 22, 24 and 25 are of a start, 23 of a finish;
+ * "it" is the object started. An object uses a scoreboard where its own bit and its VFE's enable are both set. It waits for each object
+ * before it in the batch that is unfinished, uses a scoreboard, has its colour, and whose X and Y are its own plus a delta in play, as
+ * whole numbers.
  */
 enum {
     MPL_FEW_STATES = 20,        /* fewer state bytes than objects; place 0 */

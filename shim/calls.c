@@ -17,7 +17,7 @@ const char statuses[] = "exit status: 0 all as due; 1 an answer is not; 2 not as
 enum { PAINT = 0xa5, CAPACITY = 2048, ROOM = 8 * MPL_RECORD_BYTES };
 enum { BATCH, RUN, RECORDS, STATES, BUFFERS };
 
-/* On Gen7: 6 at dword 2 (a stack size on Gen6), 3 at dword 9, 6 at dword 17 (reserved on Gen6, but not must-be-zero). */
+/* What Gen7 would refuse in it: 6 at dword 2 (a stack size on Gen6), 3 at dword 9, 6 at dword 17 (reserved on Gen6, not must-be-zero). */
 static const uint32_t gen6_batch[] = {
     0x00000000,                                                                   /* no-op */
     0x70000006, 0x000000b0, 0x00070140, 0, 0x00020004, 0xc0000003, 0x0000f00f, 0, /* VFE */

@@ -12,7 +12,7 @@ use Rattle.laws.proofs.Choices.{two-cond}
 use Rattle.chips.specs.declared.Chip.{Chip}
 use Rattle.chips.specs.declared.Target.{Target}
 use Rattle.chips.specs.declared.Named.the-variants.{Unknown, Known}
-use Rattle.chips.specs.Chips.{numberOf, target, byNamed, Unnamed, ForChip}
+use Rattle.chips.specs.Chips.{numberOf, targetOf, byNamed, Unnamed, ForChip}
 use Rattle.chips.proofs.Chips.{same-number, by-named, same-chip}
 use Rattle.words.specs.Dwords.{leAt, dwordsOf, putLe}
 use Rattle.words.proofs.Dwords.{length-dwords}
@@ -94,12 +94,12 @@ module _ (chip capacity : ℕ) (b : List ℕ) (over room : ℕ) where
   only-unknown u other (unknown n) = refl
   only-unknown u other (named c e d) = absurd (u c e)
 
-  only-named : (c : Chip) → chip ≡ numberOf c → {a : Answer} → DueFor (target c capacity) b over room a → (other : Answer)
+  only-named : (c : Chip) → chip ≡ numberOf c → {a : Answer} → DueFor (targetOf c capacity) b over room a → (other : Answer)
       → Due chip capacity b over room other → other ≡ a
   only-named c e x other (unknown n) = absurd (n c e)
   only-named c e x other (named c′ e′ y) =
-      one-due (target c capacity) b over room x other
-      (subst (λ (k : Chip). DueFor (target k capacity) b over room other) (same-number c′ c (sym e′ ∙ e)) y)
+      one-due (targetOf c capacity) b over room x other
+      (subst (λ (k : Chip). DueFor (targetOf k capacity) b over room other) (same-number c′ c (sym e′ ∙ e)) y)
 
 unknown-numbers : Numbers (refusedAnswer 18 0)
 unknown-numbers = record { number = inr (inr refl); refused = λ _. (refl, refl); accepted = λ e. absurd (omega arith) }
@@ -108,7 +108,7 @@ unknown-numbers = record { number = inr (inr refl); refused = λ _. (refl, refl)
 module _ (chip capacity : ℕ) (b r : List ℕ) where
   module _ (c : Chip) (e : chip ≡ numberOf c) where
     abbrev t : Target
-    t = target c capacity
+    t = targetOf c capacity
 
     abbrev passed : List Command
     passed = readingOf t b .passed
@@ -139,7 +139,7 @@ module _ (chip capacity : ℕ) (b r : List ℕ) where
           only = only-named chip capacity b 0 (length r) c e due;
           numbers = accepted-numbers (length passed) d;
           refused = λ h. absurd (omega arith);
-          recordAt = λ _ c′ e′ cs d laid. at-word cs (passed-as t b cs d (subst (λ (k : Chip). EndToEnd (target k capacity) b [] 0 cs (ended d)) (same-number c′ c (sym e′ ∙ e)) laid)) n;
+          recordAt = λ _ c′ e′ cs d laid. at-word cs (passed-as t b cs d (subst (λ (k : Chip). EndToEnd (targetOf k capacity) b [] 0 cs (ended d)) (same-number c′ c (sym e′ ∙ e)) laid)) n;
           past = λ k p. word-past passed r k p;
           size = written-length passed 0 r;
         }
@@ -163,14 +163,14 @@ module _ (chip capacity : ℕ) (b r : List ℕ) where
   claimed : Claims chip capacity b r (answerOf chip capacity b r) (recordsOf chip capacity b r)
   unfolding answerOf recordsOf
   claimed =
-      by-named (λ v. Claims chip capacity b r (byNamed (refusedAnswer 18 0) (λ c. answerFor (target c capacity) b r) v) (byNamed r (λ c. recordsFor (target c capacity) b r) v))
+      by-named (λ v. Claims chip capacity b r (byNamed (refusedAnswer 18 0) (λ c. answerFor (targetOf c capacity) b r) v) (byNamed r (λ c. recordsFor (targetOf c capacity) b r) v))
       chip unclaimed claimed-for
 
 -- the byte entry
 module _ (chip capacity : ℕ) (b r : List ℕ) where
   module _ (c : Chip) (e : chip ≡ numberOf c) where
     abbrev tb : Target
-    tb = target c capacity
+    tb = targetOf c capacity
 
     abbrev commands : List Command
     commands = readingOf tb (dwordsOf b) .passed
@@ -204,7 +204,7 @@ module _ (chip capacity : ℕ) (b r : List ℕ) where
           only = only-named chip capacity (dwordsOf b) (length b % 4) (length r / 4) c e due;
           numbers = accepted-numbers (length commands) d;
           refused = λ h. absurd (omega arith);
-          recordAt = λ _ c′ e′ cs d laid. at-bytes cs (passed-as tb (dwordsOf b) cs d (subst (λ (k : Chip). EndToEnd (target k capacity) (dwordsOf b) [] 0 cs (ended d)) (same-number c′ c (sym e′ ∙ e)) laid)) n;
+          recordAt = λ _ c′ e′ cs d laid. at-bytes cs (passed-as tb (dwordsOf b) cs d (subst (λ (k : Chip). EndToEnd (targetOf k capacity) (dwordsOf b) [] 0 cs (ended d)) (same-number c′ c (sym e′ ∙ e)) laid)) n;
           past = λ k p. byte-past commands r k p;
           size = bytes-written-length commands 0 r;
         }
@@ -236,7 +236,7 @@ module _ (chip capacity : ℕ) (b r : List ℕ) where
   bytes-claimed : BytesClaims chip capacity b r (bytesAnswerOf chip capacity b r) (bytesRecordsOf chip capacity b r)
   unfolding bytesAnswerOf bytesRecordsOf
   bytes-claimed =
-      by-named (λ v. BytesClaims chip capacity b r (byNamed (refusedAnswer 18 0) (λ c. bytesAnswerFor (target c capacity) b r) v) (byNamed r (λ c. bytesRecordsFor (target c capacity) b r) v))
+      by-named (λ v. BytesClaims chip capacity b r (byNamed (refusedAnswer 18 0) (λ c. bytesAnswerFor (targetOf c capacity) b r) v) (byNamed r (λ c. bytesRecordsFor (targetOf c capacity) b r) v))
       chip bytes-unclaimed bytes-claimed-for
 
 -- one reading for the chip named, so one decision
@@ -259,24 +259,24 @@ module _ (b r b′ : List ℕ) (e : length b′ ≡ length b) where
 
 -- two batches with one reading for the chip named: where none is named, any two
 module _ (chip capacity : ℕ) (b r b′ : List ℕ) where
-  pub same-answers : ForChip chip (λ c. (length b′ ≡ length b) × (readingOf (target c capacity) b′ ≡ readingOf (target c capacity) b))
+  pub same-answers : ForChip chip (λ c. (length b′ ≡ length b) × (readingOf (targetOf c capacity) b′ ≡ readingOf (targetOf c capacity) b))
       → (answerOf chip capacity b′ r ≡ answerOf chip capacity b r) × (recordsOf chip capacity b′ r ≡ recordsOf chip capacity b r)
   unfolding answerOf recordsOf
   same-answers q = (
-    same-chip refusedAnswer (λ c. answerFor (target c capacity) b′ r) (λ c. answerFor (target c capacity) b r) chip
-        (λ c n. for-answers b r b′ (q c n .0) (target c capacity) (q c n .1) .0),
-    same-chip (λ m p. r) (λ c. recordsFor (target c capacity) b′ r) (λ c. recordsFor (target c capacity) b r) chip
-        (λ c n. for-answers b r b′ (q c n .0) (target c capacity) (q c n .1) .1),
+    same-chip refusedAnswer (λ c. answerFor (targetOf c capacity) b′ r) (λ c. answerFor (targetOf c capacity) b r) chip
+        (λ c n. for-answers b r b′ (q c n .0) (targetOf c capacity) (q c n .1) .0),
+    same-chip (λ m p. r) (λ c. recordsFor (targetOf c capacity) b′ r) (λ c. recordsFor (targetOf c capacity) b r) chip
+        (λ c n. for-answers b r b′ (q c n .0) (targetOf c capacity) (q c n .1) .1),
   )
 
-  pub same-bytes : ForChip chip (λ c. (length b′ ≡ length b) × (readingOf (target c capacity) (dwordsOf b′) ≡ readingOf (target c capacity) (dwordsOf b)))
+  pub same-bytes : ForChip chip (λ c. (length b′ ≡ length b) × (readingOf (targetOf c capacity) (dwordsOf b′) ≡ readingOf (targetOf c capacity) (dwordsOf b)))
       → (bytesAnswerOf chip capacity b′ r ≡ bytesAnswerOf chip capacity b r) × (bytesRecordsOf chip capacity b′ r ≡ bytesRecordsOf chip capacity b r)
   unfolding bytesAnswerOf bytesRecordsOf
   same-bytes q = (
-    same-chip refusedAnswer (λ c. bytesAnswerFor (target c capacity) b′ r) (λ c. bytesAnswerFor (target c capacity) b r) chip
-        (λ c n. for-bytes b r b′ (q c n .0) (target c capacity) (q c n .1) .0),
-    same-chip (λ m p. r) (λ c. bytesRecordsFor (target c capacity) b′ r) (λ c. bytesRecordsFor (target c capacity) b r) chip
-        (λ c n. for-bytes b r b′ (q c n .0) (target c capacity) (q c n .1) .1),
+    same-chip refusedAnswer (λ c. bytesAnswerFor (targetOf c capacity) b′ r) (λ c. bytesAnswerFor (targetOf c capacity) b r) chip
+        (λ c n. for-bytes b r b′ (q c n .0) (targetOf c capacity) (q c n .1) .0),
+    same-chip (λ m p. r) (λ c. bytesRecordsFor (targetOf c capacity) b′ r) (λ c. bytesRecordsFor (targetOf c capacity) b r) chip
+        (λ c n. for-bytes b r b′ (q c n .0) (targetOf c capacity) (q c n .1) .1),
   )
 
 -- THEOREM
@@ -285,6 +285,6 @@ all-claimed =
     record {
       dwords = claimed;
       bytes = bytes-claimed;
-      afterEnd = λ chip capacity b r cs d laid others e. same-answers chip capacity b r (take d b ++ others) (λ c n. (e, sym (unread.after-end (target c capacity) b cs d (laid c n) others (sym e))));
-      bytesAfterEnd = λ chip capacity b r cs d laid others e. same-bytes chip capacity b r (take (4 * d) b ++ others) (λ c n. (e, sym (unread.bytes-after-end (target c capacity) b cs d (laid c n) others (sym e))));
+      afterEnd = λ chip capacity b r cs d laid others e. same-answers chip capacity b r (take d b ++ others) (λ c n. (e, sym (unread.after-end (targetOf c capacity) b cs d (laid c n) others (sym e))));
+      bytesAfterEnd = λ chip capacity b r cs d laid others e. same-bytes chip capacity b r (take (4 * d) b ++ others) (λ c n. (e, sym (unread.bytes-after-end (targetOf c capacity) b cs d (laid c n) others (sym e))));
     }

@@ -9,7 +9,7 @@ use Rattle.chips.specs.declared.Chip.{Chip}
 use Rattle.chips.specs.declared.Named.{Named}
 use Rattle.chips.specs.declared.Named.the-variants.{Unknown, Known}
 use Rattle.chips.specs.declared.Target.{Target}
-use Rattle.chips.specs.Chips.{target, namedBy}
+use Rattle.chips.specs.Chips.{targetOf, namedBy}
 use Rattle.chips.proofs.Chips.{chip-unknown, chip-known}
 use Rattle.words.specs.Dwords.{dwordsIn, dwordsOf, putLe, Buffer, buffer, putIn}
 use Rattle.words.proofs.Dwords.{in-none, in-dwords, length-dwords}
@@ -114,33 +114,33 @@ module _ (target : Target) (b r : List ℕ) (q : length b % 4 ≡ 0 → ⊥) whe
 module _ (chip capacity : ℕ) (b r : List ℕ) (v : Named) (e : v ≡ namedBy chip) where
   pub unknown-answer : (a : Answer) → v ≡ Unknown → a ≡ refusedAnswer 18 0 → a ≡ answerOf chip capacity b r
   unfolding answerOf
-  unknown-answer a u q = chip-unknown refusedAnswer (λ c. answerFor (target c capacity) b r) chip v e a u q
+  unknown-answer a u q = chip-unknown refusedAnswer (λ c. answerFor (targetOf c capacity) b r) chip v e a u q
 
   pub unknown-records : v ≡ Unknown → r ≡ recordsOf chip capacity b r
   unfolding recordsOf
-  unknown-records u = chip-unknown (λ m p. r) (λ c. recordsFor (target c capacity) b r) chip v e r u refl
+  unknown-records u = chip-unknown (λ m p. r) (λ c. recordsFor (targetOf c capacity) b r) chip v e r u refl
 
-  pub known-answer : (a : Answer) (c : Chip) → v ≡ Known c → a ≡ answerFor (target c capacity) b r → a ≡ answerOf chip capacity b r
+  pub known-answer : (a : Answer) (c : Chip) → v ≡ Known c → a ≡ answerFor (targetOf c capacity) b r → a ≡ answerOf chip capacity b r
   unfolding answerOf
-  known-answer a c k q = chip-known refusedAnswer (λ c. answerFor (target c capacity) b r) chip v e a c k q
+  known-answer a c k q = chip-known refusedAnswer (λ c. answerFor (targetOf c capacity) b r) chip v e a c k q
 
-  pub known-records : (r′ : List ℕ) (c : Chip) → v ≡ Known c → r′ ≡ recordsFor (target c capacity) b r → r′ ≡ recordsOf chip capacity b r
+  pub known-records : (r′ : List ℕ) (c : Chip) → v ≡ Known c → r′ ≡ recordsFor (targetOf c capacity) b r → r′ ≡ recordsOf chip capacity b r
   unfolding recordsOf
-  known-records r′ c k q = chip-known (λ m p. r) (λ c. recordsFor (target c capacity) b r) chip v e r′ c k q
+  known-records r′ c k q = chip-known (λ m p. r) (λ c. recordsFor (targetOf c capacity) b r) chip v e r′ c k q
 
 module _ (chip capacity : ℕ) (b r : List ℕ) (v : Named) (e : v ≡ namedBy chip) where
   pub bytes-unknown-answer : (a : Answer) → v ≡ Unknown → a ≡ refusedAnswer 18 0 → a ≡ bytesAnswerOf chip capacity b r
   unfolding bytesAnswerOf
-  bytes-unknown-answer a u q = chip-unknown refusedAnswer (λ c. bytesAnswerFor (target c capacity) b r) chip v e a u q
+  bytes-unknown-answer a u q = chip-unknown refusedAnswer (λ c. bytesAnswerFor (targetOf c capacity) b r) chip v e a u q
 
   pub bytes-unknown-records : v ≡ Unknown → r ≡ bytesRecordsOf chip capacity b r
   unfolding bytesRecordsOf
-  bytes-unknown-records u = chip-unknown (λ m p. r) (λ c. bytesRecordsFor (target c capacity) b r) chip v e r u refl
+  bytes-unknown-records u = chip-unknown (λ m p. r) (λ c. bytesRecordsFor (targetOf c capacity) b r) chip v e r u refl
 
-  pub bytes-known-answer : (a : Answer) (c : Chip) → v ≡ Known c → a ≡ bytesAnswerFor (target c capacity) b r → a ≡ bytesAnswerOf chip capacity b r
+  pub bytes-known-answer : (a : Answer) (c : Chip) → v ≡ Known c → a ≡ bytesAnswerFor (targetOf c capacity) b r → a ≡ bytesAnswerOf chip capacity b r
   unfolding bytesAnswerOf
-  bytes-known-answer a c k q = chip-known refusedAnswer (λ c. bytesAnswerFor (target c capacity) b r) chip v e a c k q
+  bytes-known-answer a c k q = chip-known refusedAnswer (λ c. bytesAnswerFor (targetOf c capacity) b r) chip v e a c k q
 
-  pub bytes-known-records : (r′ : List ℕ) (c : Chip) → v ≡ Known c → r′ ≡ bytesRecordsFor (target c capacity) b r → r′ ≡ bytesRecordsOf chip capacity b r
+  pub bytes-known-records : (r′ : List ℕ) (c : Chip) → v ≡ Known c → r′ ≡ bytesRecordsFor (targetOf c capacity) b r → r′ ≡ bytesRecordsOf chip capacity b r
   unfolding bytesRecordsOf
-  bytes-known-records r′ c k q = chip-known (λ m p. r) (λ c. bytesRecordsFor (target c capacity) b r) chip v e r′ c k q
+  bytes-known-records r′ c k q = chip-known (λ m p. r) (λ c. bytesRecordsFor (targetOf c capacity) b r) chip v e r′ c k q

@@ -3,7 +3,7 @@ use mathlib.Core.Path.{_≡_}
 use mathlib.Core.List.{List}
 use Prim.Native.Nat.{ℕ}
 use lib.ListN.{length}
-use Rattle.chips.specs.Chips.{target, ForChip}
+use Rattle.chips.specs.Chips.{targetOf, ForChip}
 use Rattle.words.specs.Dwords.{dwordsOf}
 use Rattle.reading.specs.Reading.{readingOf}
 use Rattle.reading.specs.Isolation.{Alike, BytesAlike}
@@ -14,9 +14,9 @@ use Rattle.batch.specs.Isolation.{Guards}
 use Rattle.batch.proofs.Claimed.{same-answers, same-bytes}
 
 -- LAW: one answer, and one record buffer at exit
-module _ (chip capacity : ℕ) (b b′ : List ℕ) (h : ForChip chip (λ c. Alike (target c capacity) b b′)) (r : List ℕ) where
-  one-reading : ForChip chip (λ c. (length b ≡ length b′) × (readingOf (target c capacity) b ≡ readingOf (target c capacity) b′))
-  one-reading c n = (h c n .size, alike-reading (target c capacity) b b′ (h c n))
+module _ (chip capacity : ℕ) (b b′ : List ℕ) (h : ForChip chip (λ c. Alike (targetOf c capacity) b b′)) (r : List ℕ) where
+  one-reading : ForChip chip (λ c. (length b ≡ length b′) × (readingOf (targetOf c capacity) b ≡ readingOf (targetOf c capacity) b′))
+  one-reading c n = (h c n .size, alike-reading (targetOf c capacity) b b′ (h c n))
 
   pub alike-answer : answerOf chip capacity b r ≡ answerOf chip capacity b′ r
   alike-answer = same-answers chip capacity b′ r b one-reading .0
@@ -25,9 +25,9 @@ module _ (chip capacity : ℕ) (b b′ : List ℕ) (h : ForChip chip (λ c. Alik
   alike-records = same-answers chip capacity b′ r b one-reading .1
 
 -- the same over bytes
-module _ (chip capacity : ℕ) (b b′ : List ℕ) (h : ForChip chip (λ c. BytesAlike (target c capacity) b b′)) (r : List ℕ) where
-  bytes-reading : ForChip chip (λ c. (length b ≡ length b′) × (readingOf (target c capacity) (dwordsOf b) ≡ readingOf (target c capacity) (dwordsOf b′)))
-  bytes-reading c n = (h c n .size, alike-reading (target c capacity) (dwordsOf b) (dwordsOf b′) (bytes-alike (target c capacity) b b′ (h c n)))
+module _ (chip capacity : ℕ) (b b′ : List ℕ) (h : ForChip chip (λ c. BytesAlike (targetOf c capacity) b b′)) (r : List ℕ) where
+  bytes-reading : ForChip chip (λ c. (length b ≡ length b′) × (readingOf (targetOf c capacity) (dwordsOf b) ≡ readingOf (targetOf c capacity) (dwordsOf b′)))
+  bytes-reading c n = (h c n .size, alike-reading (targetOf c capacity) (dwordsOf b) (dwordsOf b′) (bytes-alike (targetOf c capacity) b b′ (h c n)))
 
   pub alike-bytes-answer : bytesAnswerOf chip capacity b r ≡ bytesAnswerOf chip capacity b′ r
   alike-bytes-answer = same-bytes chip capacity b′ r b bytes-reading .0

@@ -3,7 +3,7 @@ use Prim.Native.Nat.{ℕ, _/_}
 use mathlib.Core.List.{List}
 use lib.ListN.{length, set}
 use Rattle.chips.specs.declared.Target.{Target}
-use Rattle.chips.specs.Chips.{target, onChip}
+use Rattle.chips.specs.Chips.{targetOf, onChip}
 use Rattle.words.specs.Dwords.{dwordsOf, putLe}
 use Rattle.reading.specs.declared.Scanned.{Scanned}
 use Rattle.reading.specs.declared.Scanned.the-variants.{Stopped, Ended}
@@ -43,13 +43,13 @@ bytesRecordsFor target b r = wholeDwords (λ m p. r) b (recordedIn putLe target 
 
 -- The entries, for any number as the chip: 18 before all else, and nothing lent changes.
 unfoldable pub answerOf : ℕ → ℕ → List ℕ → List ℕ → Answer
-answerOf chip capacity b r = onChip refusedAnswer (λ c. answerFor (target c capacity) b r) chip
+answerOf chip capacity b r = onChip refusedAnswer (λ c. answerFor (targetOf c capacity) b r) chip
 
 unfoldable pub recordsOf : ℕ → ℕ → List ℕ → List ℕ → List ℕ
-recordsOf chip capacity b r = onChip (λ m p. r) (λ c. recordsFor (target c capacity) b r) chip
+recordsOf chip capacity b r = onChip (λ m p. r) (λ c. recordsFor (targetOf c capacity) b r) chip
 
 unfoldable pub bytesAnswerOf : ℕ → ℕ → List ℕ → List ℕ → Answer
-bytesAnswerOf chip capacity b r = onChip refusedAnswer (λ c. bytesAnswerFor (target c capacity) b r) chip
+bytesAnswerOf chip capacity b r = onChip refusedAnswer (λ c. bytesAnswerFor (targetOf c capacity) b r) chip
 
 unfoldable pub bytesRecordsOf : ℕ → ℕ → List ℕ → List ℕ → List ℕ
-bytesRecordsOf chip capacity b r = onChip (λ m p. r) (λ c. bytesRecordsFor (target c capacity) b r) chip
+bytesRecordsOf chip capacity b r = onChip (λ m p. r) (λ c. bytesRecordsFor (targetOf c capacity) b r) chip

@@ -7,7 +7,7 @@ use Prim.Native.Nat.{ℕ, _+_, _*_, _/_, _%_, _^_, _<_, _≤_}
 use lib.ListN.{length, getD, take}
 use Rattle.chips.specs.declared.Chip.{Chip}
 use Rattle.chips.specs.declared.Target.{Target}
-use Rattle.chips.specs.Chips.{numberOf, target, Unnamed, ForChip}
+use Rattle.chips.specs.Chips.{numberOf, targetOf, Unnamed, ForChip}
 use Rattle.words.specs.Dwords.{leAt, dwordsOf}
 use Rattle.command.specs.Order.{Command}
 use Rattle.record.specs.Record.{recordOf}
@@ -39,9 +39,10 @@ pub data DueFor (target : Target) (b : List ℕ) (over room : ℕ) : Answer → 
 pub data Due (chip capacity : ℕ) (b : List ℕ) (over room : ℕ) : Answer → Type 0 where
   -- 18: "chip neither 6 nor 7, checked before all others"
   unknown : Unnamed chip → Due chip capacity b over room (refusedAnswer 18 0)
-  named : {answer : Answer} (c : Chip) → chip ≡ numberOf c → DueFor (target c capacity) b over room answer → Due chip capacity b over room answer
+  named : {answer : Answer} (c : Chip) → chip ≡ numberOf c → DueFor (targetOf c capacity) b over room answer
+      → Due chip capacity b over room answer
 
--- what an answer's numbers tell apart: a refusal has one of the table's, and what the paper leaves free is 0
+-- what an answer's numbers tell apart: a refusal has one of the table's, or 18, and what the paper leaves free is 0
 pub record Numbers (answer : Answer) : Type 0 where
   pub number : (answer .number ≤ 10) ⊎ ((answer .number ≡ 17) ⊎ (answer .number ≡ 18))
   pub refused : 0 < answer .number → (answer .commands ≡ 0) × (answer .dwords ≡ 0)
@@ -53,11 +54,12 @@ pub record Claims (chip capacity : ℕ) (batch records : List ℕ) (answer : Ans
   pub due : Due chip capacity batch 0 (length records) answer
   pub only : (other : Answer) → Due chip capacity batch 0 (length records) other → other ≡ answer
   pub numbers : Numbers answer
-  -- "Nothing lent changes on any refusal of this table"
+  -- "Nothing lent changes on any refusal of this table"; 18 is "A new refusal", which "changes nothing lent"
   pub refused : 0 < answer .number → filled ≡ records
   -- success "fills that many records": word f of the record of command i
-  pub recordAt : answer .number ≡ 0 → (c : Chip) → chip ≡ numberOf c → (cs : List Command) (d : ℕ) → Laid (target c capacity) batch cs (ended d)
-      → (i f : ℕ) → i < length cs → f < 16 → getD filled (slot i f) 0 ≡ getD (recordOf (commandNumber cs i)) f 0
+  pub recordAt : answer .number ≡ 0 → (c : Chip) → chip ≡ numberOf c → (cs : List Command) (d : ℕ)
+      → Laid (targetOf c capacity) batch cs (ended d) → (i f : ℕ) → i < length cs → f < 16
+      → getD filled (slot i f) 0 ≡ getD (recordOf (commandNumber cs i)) f 0
   -- "nothing past them", which after a refusal, with no commands, is the whole buffer
   pub past : (k : ℕ) → 16 * answer .commands ≤ k → getD filled k 0 ≡ getD records k 0
   pub size : length filled ≡ length records
@@ -69,7 +71,7 @@ pub record BytesClaims (chip capacity : ℕ) (batch records : List ℕ) (answer 
   pub numbers : Numbers answer
   pub refused : 0 < answer .number → filled ≡ records
   pub recordAt : answer .number ≡ 0 → (c : Chip) → chip ≡ numberOf c → (cs : List Command) (d : ℕ)
-      → Laid (target c capacity) (dwordsOf batch) cs (ended d) → (i f : ℕ) → i < length cs → f < 16
+      → Laid (targetOf c capacity) (dwordsOf batch) cs (ended d) → (i f : ℕ) → i < length cs → f < 16
       → leAt filled (4 * slot i f) ≡ getD (recordOf (commandNumber cs i)) f 0 % 2 ^ 32
   pub past : (k : ℕ) → 64 * answer .commands ≤ k → getD filled k 0 ≡ getD records k 0
   pub size : length filled ≡ length records
@@ -83,12 +85,12 @@ pub record AllClaimed : Type 0 where
   -- "Dwords after END are not read": any others of the same number in their place give the same answer and the same records. END is where
   -- the chip named finds it; where none is named, any place will do.
   pub afterEnd : (chip capacity : ℕ) (batch records : List ℕ) (cs : List Command) (d : ℕ)
-      → ForChip chip (λ c. Laid (target c capacity) batch cs (ended d))
+      → ForChip chip (λ c. Laid (targetOf c capacity) batch cs (ended d))
       → (others : List ℕ) → length (take d batch ++ others) ≡ length batch
       → (answerOf chip capacity (take d batch ++ others) records ≡ answerOf chip capacity batch records)
       × (recordsOf chip capacity (take d batch ++ others) records ≡ recordsOf chip capacity batch records)
   pub bytesAfterEnd : (chip capacity : ℕ) (batch records : List ℕ) (cs : List Command) (d : ℕ)
-      → ForChip chip (λ c. Laid (target c capacity) (dwordsOf batch) cs (ended d))
+      → ForChip chip (λ c. Laid (targetOf c capacity) (dwordsOf batch) cs (ended d))
       → (others : List ℕ) → length (take (4 * d) batch ++ others) ≡ length batch
       → (bytesAnswerOf chip capacity (take (4 * d) batch ++ others) records ≡ bytesAnswerOf chip capacity batch records)
       × (bytesRecordsOf chip capacity (take (4 * d) batch ++ others) records ≡ bytesRecordsOf chip capacity batch records)

@@ -1,6 +1,7 @@
 // The batch check: a pass that decides and writes nothing, then a pass that writes the records.
 ghost use mathlib.Core.Path.{_≡_};
-ghost use Rattle.batch.specs.Answers.{refusedAnswer, acceptedAnswer, answerBy, answerFor, recordsFor, bytesAnswerFor, bytesRecordsFor};
+ghost use Rattle.batch.specs.Answers.{refusedAnswer, acceptedAnswer, answerBy};
+ghost use Rattle.batch.specs.Answers.{answerFor, recordsFor, bytesAnswerFor, bytesRecordsFor};
 ghost use Rattle.batch.specs.Answers.{answerOf, recordsOf, bytesAnswerOf, bytesRecordsOf};
 use chips::Named;
 use chips::Target;

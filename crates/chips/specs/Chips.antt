@@ -29,8 +29,8 @@ abbrev pub onChip : {A : Type 0} → (ℕ → ℕ → A) → (Chip → A) → �
 onChip refused given n = byNamed (refused 18 0) given (namedBy n)
 
 -- what a batch is judged for: the chip, and the capacity lent, in rows
-abbrev pub target : Chip → ℕ → Target
-target c capacity = record { chip = c; capacity = capacity }
+abbrev pub targetOf : Chip → ℕ → Target
+targetOf c capacity = record { chip = c; capacity = capacity }
 
 -- a number that names no chip
 abbrev pub Unnamed : ℕ → Type 0

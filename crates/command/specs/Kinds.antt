@@ -29,7 +29,7 @@ headers =
     ∷ 0x7004_0000
     -- 7 MEDIA_OBJECT
     ∷ 0x7100_0004
-    -- 8 MEDIA_GATEWAY_STATE: document 000, lines 808 to 811
+    -- 8 MEDIA_GATEWAY_STATE: document 000, lines 803 to 811
     ∷ 0x7003_0000
     ∷ []
 
@@ -64,7 +64,7 @@ kindRows c d =
     ∷ row 8 (hasGatewayState c && isKind 8 d)
     ∷ []
 
--- and its kind
+-- the kind, by a command's first dword, in the chip's table
 unfoldable pub kindOf : Chip → ℕ → ℕ
 kindOf c d = firstRow noKind (kindRows c d)
 

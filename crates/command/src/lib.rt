@@ -4,8 +4,8 @@ pub mod states;
 
 use chips::Chip;
 
-// What the batch is judged for, the chip and the capacity in rows, and what the commands before a command have set. The flags are 1 or 0: as bools, whose bytes are stored one
-// by one and loaded as one word, they held up the loop.
+// What the batch is judged for, the chip and the capacity in rows, and what the commands before a command have set. The flags are 1 or 0:
+// as bools, whose bytes are stored one by one and loaded as one word, they held up the loop.
 pub struct State {
     pub chip: Chip,
     pub capacity: u32,

@@ -1,7 +1,7 @@
 -- Demand 3 holds. Each deciding fact, each half's induction and its guards are laws in the crate of their definition. Assumes nothing.
 use mathlib.Core.List.{List}
 use Prim.Native.Nat.{ℕ}
-use Rattle.chips.specs.Chips.{target, ForChip}
+use Rattle.chips.specs.Chips.{targetOf, ForChip}
 use Rattle.words.specs.Dwords.{dwordsOf}
 use Rattle.reading.specs.Isolation.{Alike, BytesAlike}
 use Rattle.reading.proofs.Isolation.{alike-reading, bytes-alike}
@@ -12,19 +12,19 @@ use Rattle.replay_claims.proofs.Guards as recording
 use Rattle.listing.proofs.Isolation.{alike-text, alike-buffer}
 use Rattle.isolation.specs.Isolation.{Same, BytesSame, Isolation}
 
-same : (chip capacity : ℕ) (b b′ run r states : List ℕ) → ForChip chip (λ c. Alike (target c capacity) b b′) → Same chip capacity b b′ run r states
+same : (chip capacity : ℕ) (b b′ run r states : List ℕ) → ForChip chip (λ c. Alike (targetOf c capacity) b b′) → Same chip capacity b b′ run r states
 same chip capacity b b′ run r states h =
     record {
-      passed = λ c n. alike-reading (target c capacity) b b′ (h c n);
+      passed = λ c n. alike-reading (targetOf c capacity) b b′ (h c n);
       answer = batch.alike-answer chip capacity b b′ h r;
       records = batch.alike-records chip capacity b b′ h r;
       order = alike-order chip capacity b b′ run r states h;
     }
 
-bytes-same : (chip capacity : ℕ) (b b′ run r states : List ℕ) → ForChip chip (λ c. BytesAlike (target c capacity) b b′) → BytesSame chip capacity b b′ run r states
+bytes-same : (chip capacity : ℕ) (b b′ run r states : List ℕ) → ForChip chip (λ c. BytesAlike (targetOf c capacity) b b′) → BytesSame chip capacity b b′ run r states
 bytes-same chip capacity b b′ run r states h =
     record {
-      passed = λ c n. alike-reading (target c capacity) (dwordsOf b) (dwordsOf b′) (bytes-alike (target c capacity) b b′ (h c n));
+      passed = λ c n. alike-reading (targetOf c capacity) (dwordsOf b) (dwordsOf b′) (bytes-alike (targetOf c capacity) b b′ (h c n));
       answer = batch.alike-bytes-answer chip capacity b b′ h r;
       records = batch.alike-bytes-records chip capacity b b′ h r;
       order = alike-bytes-order chip capacity b b′ run r states h;

@@ -5,7 +5,7 @@ use mathlib.Core.Path.{_≡_}
 use mathlib.Core.List.{List}
 use Prim.Native.Nat.{ℕ}
 use Rattle.chips.specs.declared.Chip.{Chip}
-use Rattle.chips.specs.Chips.{target, ForChip}
+use Rattle.chips.specs.Chips.{targetOf, ForChip}
 use Rattle.words.specs.Dwords.{dwordsOf}
 use Rattle.reading.specs.Reading.{readingOf}
 use Rattle.reading.specs.Isolation.{Alike, BytesAlike}
@@ -28,14 +28,14 @@ Recordings =
 -- equation has its answer, records and states.
 pub record Same (chip capacity : ℕ) (b b′ run r states : List ℕ) : Type 0 where
   -- that the second passes the same is proved, not assumed
-  pub passed : ForChip chip (λ c. readingOf (target c capacity) b ≡ readingOf (target c capacity) b′)
+  pub passed : ForChip chip (λ c. readingOf (targetOf c capacity) b ≡ readingOf (targetOf c capacity) b′)
   pub answer : answerOf chip capacity b r ≡ answerOf chip capacity b′ r
   pub records : recordsOf chip capacity b r ≡ recordsOf chip capacity b′ r
   pub order : orderOf chip capacity b run r states ≡ orderOf chip capacity b′ run r states
 
 -- the same over bytes: b, run and r are bytes
 pub record BytesSame (chip capacity : ℕ) (b b′ run r states : List ℕ) : Type 0 where
-  pub passed : ForChip chip (λ c. readingOf (target c capacity) (dwordsOf b) ≡ readingOf (target c capacity) (dwordsOf b′))
+  pub passed : ForChip chip (λ c. readingOf (targetOf c capacity) (dwordsOf b) ≡ readingOf (targetOf c capacity) (dwordsOf b′))
   pub answer : bytesAnswerOf chip capacity b r ≡ bytesAnswerOf chip capacity b′ r
   pub records : bytesRecordsOf chip capacity b r ≡ bytesRecordsOf chip capacity b′ r
   pub order : bytesOrderOf chip capacity b run r states ≡ bytesOrderOf chip capacity b′ run r states
@@ -48,11 +48,12 @@ pub record ListedSame (chip : Chip) (input input′ text : List ℕ) : Type 0 wh
 -- "Now take two batches that differ only in inline data of objects passed before the reading stopped", as the chip named reads them. Where
 -- the number names no chip, any two batches are answered alike: nothing is asked of them. A listing has 2,048 rows.
 pub record Batches : Type 0 where
-  pub dwords : (chip capacity : ℕ) (b b′ run r states : List ℕ) → ForChip chip (λ c. Alike (target c capacity) b b′)
+  pub dwords : (chip capacity : ℕ) (b b′ run r states : List ℕ) → ForChip chip (λ c. Alike (targetOf c capacity) b b′)
       → Same chip capacity b b′ run r states
-  pub bytes : (chip capacity : ℕ) (b b′ run r states : List ℕ) → ForChip chip (λ c. BytesAlike (target c capacity) b b′)
+  pub bytes : (chip capacity : ℕ) (b b′ run r states : List ℕ) → ForChip chip (λ c. BytesAlike (targetOf c capacity) b b′)
       → BytesSame chip capacity b b′ run r states
-  pub listing : (chip : Chip) (input input′ text : List ℕ) → BytesAlike (target chip 2048) input input′ → ListedSame chip input input′ text
+  pub listing : (chip : Chip) (input input′ text : List ℕ) → BytesAlike (targetOf chip 2048) input input′
+      → ListedSame chip input input′ text
 
 pub record Isolation : Type 0 where
   pub recordings : Recordings

@@ -8,7 +8,7 @@ use mathlib.Core.List.{List, [], _∷_}
 use lib.Bits.{bitAnd, and-le-r}
 use lib.Dec.{ltb, leb, eqb, lit<}
 use borrow.Author.Tests.{ne-eqb}
-use Rattle.laws.specs.Rows.{row, firstRow}
+use Rattle.laws.specs.Rows.{Row, row, firstRow}
 use Rattle.laws.specs.BitRanges.{anySet}
 use Rattle.chips.specs.declared.Chip.{Chip}
 use Rattle.chips.specs.declared.Chip.the-variants.{Gen6, Gen7}
@@ -25,53 +25,46 @@ module _ (h : List ℕ) (st : State) where
   abbrev own : Chip → ℕ → Verdict
   own c k = firstRow Passed (ownRows c k h st)
 
-  vfe-on : (c : Chip) → own c 3 ≡ firstRow Passed (
+  abbrev vfeRows : Chip → List (Row Verdict)
+  vfeRows c =
       mustBeZero c 3 h 1
       ∷ mustBeZero c 3 h 2
       ∷ mustBeZero c 3 h 3
       ∷ mustBeZero c 3 h 5
       ∷ row (Fault 8 0) (isSet (st .«media_since_flush»))
       ∷ row (Fault 9 0) (ltb (st .capacity) (urbEntries h * entrySize h + curbeSize h))
-      ∷ [])
+      ∷ []
+
+  vfe-on : (c : Chip) → own c 3 ≡ firstRow Passed (vfeRows c)
   unfolding markedBits marks anySet
   vfe-on Gen6 = refl
   vfe-on Gen7 = refl
 
-  pub vfe-can : ownVerdict 3 h st ≡ firstRow Passed (
-      mustBeZero (st .chip) 3 h 1
-      ∷ mustBeZero (st .chip) 3 h 2
-      ∷ mustBeZero (st .chip) 3 h 3
-      ∷ mustBeZero (st .chip) 3 h 5
-      ∷ row (Fault 8 0) (isSet (st .«media_since_flush»))
-      ∷ row (Fault 9 0) (ltb (st .capacity) (urbEntries h * entrySize h + curbeSize h))
-      ∷ [])
+  pub vfe-can : ownVerdict 3 h st ≡ firstRow Passed (vfeRows (st .chip))
   unfolding ownVerdict
   vfe-can = vfe-on (st .chip)
 
-  curbe-on : (c : Chip) → own c 4 ≡ firstRow Passed (
+  abbrev curbeRows : Chip → List (Row Verdict)
+  curbeRows c =
       mustBeZero c 4 h 1
       ∷ mustBeZero c 4 h 2
       ∷ row (Fault 7 2) (not (eqb (loadLength h % 32) 0))
       ∷ row (Fault 7 3) (not (eqb (loadAddress h % 32) 0))
       ∷ row (Fault 8 0) (not (isSet (st .«earlier_vfe»)))
       ∷ row (Fault 9 0) (ltb (32 * st .«curbe_in_force») (loadLength h))
-      ∷ [])
+      ∷ []
+
+  curbe-on : (c : Chip) → own c 4 ≡ firstRow Passed (curbeRows c)
   unfolding markedBits marks anySet
   curbe-on Gen6 = refl
   curbe-on Gen7 = refl
 
-  pub curbe-can : ownVerdict 4 h st ≡ firstRow Passed (
-      mustBeZero (st .chip) 4 h 1
-      ∷ mustBeZero (st .chip) 4 h 2
-      ∷ row (Fault 7 2) (not (eqb (loadLength h % 32) 0))
-      ∷ row (Fault 7 3) (not (eqb (loadAddress h % 32) 0))
-      ∷ row (Fault 8 0) (not (isSet (st .«earlier_vfe»)))
-      ∷ row (Fault 9 0) (ltb (32 * st .«curbe_in_force») (loadLength h))
-      ∷ [])
+  pub curbe-can : ownVerdict 4 h st ≡ firstRow Passed (curbeRows (st .chip))
   unfolding ownVerdict
   curbe-can = curbe-on (st .chip)
 
-  descriptor-on : (c : Chip) → own c 5 ≡ firstRow Passed (
+  abbrev descriptorRows : Chip → List (Row Verdict)
+  descriptorRows c =
       mustBeZero c 5 h 1
       ∷ mustBeZero c 5 h 2
       ∷ row (Fault 7 2) (not (eqb (loadLength h % 32) 0))
@@ -80,43 +73,43 @@ module _ (h : List ℕ) (st : State) where
       ∷ row (Fault 7 3) (not (eqb (loadAddress h % 32) 0))
       ∷ row (Fault 8 0) (not (isSet (st .«earlier_vfe»)))
       ∷ row (Fault 8 0) (isSet (st .«object_since_flush»))
-      ∷ [])
+      ∷ []
+
+  descriptor-on : (c : Chip) → own c 5 ≡ firstRow Passed (descriptorRows c)
   unfolding markedBits marks anySet
   descriptor-on Gen6 = refl
   descriptor-on Gen7 = refl
 
-  pub descriptor-can : ownVerdict 5 h st ≡ firstRow Passed (
-      mustBeZero (st .chip) 5 h 1
-      ∷ mustBeZero (st .chip) 5 h 2
-      ∷ row (Fault 7 2) (not (eqb (loadLength h % 32) 0))
-      ∷ row (Fault 7 2) (ltb (loadLength h) 32)
-      ∷ row (Fault 7 2) (ltb 2048 (loadLength h))
-      ∷ row (Fault 7 3) (not (eqb (loadAddress h % 32) 0))
-      ∷ row (Fault 8 0) (not (isSet (st .«earlier_vfe»)))
-      ∷ row (Fault 8 0) (isSet (st .«object_since_flush»))
-      ∷ [])
+  pub descriptor-can : ownVerdict 5 h st ≡ firstRow Passed (descriptorRows (st .chip))
   unfolding ownVerdict
   descriptor-can = descriptor-on (st .chip)
 
-  flush-on : (c : Chip) → own c 6 ≡ firstRow Passed (mustBeZero c 6 h 1 ∷ [])
+  abbrev flushRows : Chip → List (Row Verdict)
+  flushRows c = mustBeZero c 6 h 1 ∷ []
+
+  flush-on : (c : Chip) → own c 6 ≡ firstRow Passed (flushRows c)
   unfolding markedBits marks anySet
   flush-on Gen6 = refl
   flush-on Gen7 = refl
 
-  pub flush-can : ownVerdict 6 h st ≡ firstRow Passed (mustBeZero (st .chip) 6 h 1 ∷ [])
+  pub flush-can : ownVerdict 6 h st ≡ firstRow Passed (flushRows (st .chip))
   unfolding ownVerdict
   flush-can = flush-on (st .chip)
 
-  gateway-on : (c : Chip) → own c 8 ≡ firstRow Passed (mustBeZero c 8 h 1 ∷ row (Fault 8 0) (not (isSet (st .«earlier_vfe»))) ∷ [])
+  abbrev gatewayRows : Chip → List (Row Verdict)
+  gatewayRows c = mustBeZero c 8 h 1 ∷ row (Fault 8 0) (not (isSet (st .«earlier_vfe»))) ∷ []
+
+  gateway-on : (c : Chip) → own c 8 ≡ firstRow Passed (gatewayRows c)
   unfolding markedBits marks anySet
   gateway-on Gen6 = refl
   gateway-on Gen7 = refl
 
-  pub gateway-can : ownVerdict 8 h st ≡ firstRow Passed (mustBeZero (st .chip) 8 h 1 ∷ row (Fault 8 0) (not (isSet (st .«earlier_vfe»))) ∷ [])
+  pub gateway-can : ownVerdict 8 h st ≡ firstRow Passed (gatewayRows (st .chip))
   unfolding ownVerdict
   gateway-can = gateway-on (st .chip)
 
-  object-on : (c : Chip) → own c 7 ≡ firstRow Passed (
+  abbrev objectRows : Chip → List (Row Verdict)
+  objectRows c =
       mustBeZero c 7 h 1
       ∷ mustBeZero c 7 h 2
       ∷ mustBeZero c 7 h 3
@@ -124,20 +117,14 @@ module _ (h : List ℕ) (st : State) where
       ∷ mustBeZero c 7 h 5
       ∷ row (Fault 8 0) (not (isSet (st .«earlier_vfe»)))
       ∷ row (Fault 8 0) (leb (st .«count_loaded») (descriptorIndex h))
-      ∷ [])
+      ∷ []
+
+  object-on : (c : Chip) → own c 7 ≡ firstRow Passed (objectRows c)
   unfolding markedBits marks anySet
   object-on Gen6 = refl
   object-on Gen7 = refl
 
-  pub object-can : ownVerdict 7 h st ≡ firstRow Passed (
-      mustBeZero (st .chip) 7 h 1
-      ∷ mustBeZero (st .chip) 7 h 2
-      ∷ mustBeZero (st .chip) 7 h 3
-      ∷ mustBeZero (st .chip) 7 h 4
-      ∷ mustBeZero (st .chip) 7 h 5
-      ∷ row (Fault 8 0) (not (isSet (st .«earlier_vfe»)))
-      ∷ row (Fault 8 0) (leb (st .«count_loaded») (descriptorIndex h))
-      ∷ [])
+  pub object-can : ownVerdict 7 h st ≡ firstRow Passed (objectRows (st .chip))
   unfolding ownVerdict
   object-can = object-on (st .chip)
 

@@ -53,7 +53,8 @@ ownRows c k h st =
     ∷ row (Fault 7 3) (isLoad k && not (eqb (loadAddress h % 32) 0))
     -- 8: "kinds 4, 5, 7 need an earlier VFE"; kind 8 "is ordered as kind 4 is"
     ∷ row (Fault 8 0) ((isLoad k || eqb k 7 || eqb k 8) && not (isSet (st .«earlier_vfe»)))
-    -- 8: "A VFE needs that no command of kind 3, 4, 5 or 7 stands since the last MI_FLUSH or the start"; kind 8 is "counting with" kind 4
+    -- 8: "A VFE needs that no command of kind 3, 4, 5 or 7 stands since the last MI_FLUSH or the start"; kind 8 too, "counting with it
+    -- before a VFE (H)"
     ∷ row (Fault 8 0) (eqb k 3 && isSet (st .«media_since_flush»))
     -- 8: "A descriptor load needs that no OBJECT stands since the last kind 1 or 6"
     ∷ row (Fault 8 0) (eqb k 5 && isSet (st .«object_since_flush»))

@@ -3,13 +3,13 @@ ghost use mathlib.Core.Path.{_≡_};
 ghost use Prim.Native.Nat.{_+_, _≤_};
 ghost use lib.ListN.{length};
 ghost use Rattle.io.specs.Counts.{Counts};
-ghost use Rattle.lister.specs.Listed.{textAfter, lengthOf};
+ghost use Rattle.lister.specs.Listed.{textAfter, toPrint};
 use chips::Chip;
 use libc::STDIN_FILENO;
 
-// Whether no read failed (1) or one did (0), how many bytes were read, and how many the text has.
+// Whether no read failed, how many bytes were read, and how many the text has.
 pub struct Listed {
-    pub whole: u32,
+    pub whole: bool,
     pub bytes: usize,
     pub length: usize,
 }
@@ -56,20 +56,21 @@ fn read_input(buf: &mut [u8]) -> Input
 // Lists what standard input holds, as much as the input buffer takes, for a chip.
 pub fn list_input(chip: Chip, input: &mut [u8], text: &mut [u8; 49152]) -> Listed
     ensures { λ r. ⌜ (now (text .exit) ≡ textAfter chip r (now (input .exit)) (now (text .entry)))
-        × (r .length ≡ lengthOf chip r (now (input .exit))) × Counts (r .bytes) (now (input .exit)) × Counts (r .length) (now (text .exit)) ⌝ }
+        × (r .length ≡ toPrint chip r (now (input .exit)))
+        × Counts (r .bytes) (now (input .exit)) × Counts (r .length) (now (text .exit)) ⌝ }
 {
     let read = read_input(input);
     let bytes = read.bytes;
     if !read.whole {
         return Listed {
-            whole: 0,
+            whole: false,
             bytes,
             length: 0,
         };
     }
     let length = listing::list(chip, &input[..bytes], text);
     Listed {
-        whole: 1,
+        whole: true,
         bytes,
         length,
     }

@@ -4,17 +4,17 @@ use mathlib.Core.List.{List, _++_}
 use Prim.Native.Nat.{ℕ}
 use lib.ListN.{length, drop}
 use Rattle.chips.specs.declared.Chip.{Chip}
-use Rattle.chips.specs.Chips.{target}
+use Rattle.chips.specs.Chips.{targetOf}
 use Rattle.words.specs.Dwords.{dwordsOf}
 use Rattle.reading.specs.Reading.{Reading}
 use Rattle.reading.specs.Isolation.{BytesAlike}
 use Rattle.reading.proofs.Isolation.{alike-reading, bytes-alike}
 use Rattle.listing.specs.Listing.{readText, batchText, textOf, listedIn}
 
-module _ (chip : Chip) (b b′ : List ℕ) (h : BytesAlike (target chip 2048) b b′) where
+module _ (chip : Chip) (b b′ : List ℕ) (h : BytesAlike (targetOf chip 2048) b b′) where
   alike-batch : batchText chip (dwordsOf b) ≡ batchText chip (dwordsOf b′)
   unfolding batchText
-  alike-batch = ap (λ (r : Reading). readText (r .passed) (r .stop)) (alike-reading (target chip 2048) (dwordsOf b) (dwordsOf b′) (bytes-alike (target chip 2048) b b′ h))
+  alike-batch = ap (λ (r : Reading). readText (r .passed) (r .stop)) (alike-reading (targetOf chip 2048) (dwordsOf b) (dwordsOf b′) (bytes-alike (targetOf chip 2048) b b′ h))
 
   -- LAW: one text
   pub alike-text : textOf chip b ≡ textOf chip b′

@@ -9,7 +9,7 @@ use lib.Seq.{length-take-le}
 use borrow.Author.Tests.{lt-ltb, le-ltb, eq-eqb, ne-eqb}
 use Rattle.io.specs.Counts.{Counts}
 use Rattle.chips.specs.declared.Chip.{Chip}
-use Rattle.chips.specs.Chips.{target}
+use Rattle.chips.specs.Chips.{targetOf}
 use Rattle.words.specs.Dwords.{dwordsOf, dwordsIn, Buffer, buffer, putIn}
 use Rattle.words.proofs.Dwords.{in-none, in-dwords, length-dwords}
 use Rattle.command.specs.Order.{Command}
@@ -35,55 +35,55 @@ stop-text cs (stopped m p) h = refl
 stop-text cs (ended d) h = simp (le-ltb 16384 (16 * length cs) (omega arith))
 
 -- w is what the batch check decided
-module _ (chip : Chip) (input : List ℕ) (h : length input ≤ 4096) (w : Scanned) (ew : w ≡ decisionOf (target chip 2048) 16384 (dwordsIn [] input)) where
+module _ (chip : Chip) (input : List ℕ) (h : length input ≤ 4096) (w : Scanned) (ew : w ≡ decisionOf (targetOf chip 2048) 16384 (dwordsIn [] input)) where
   abbrev cs : List Command
-  cs = readingOf (target chip 2048) (dwordsOf input) .passed
+  cs = readingOf (targetOf chip 2048) (dwordsOf input) .passed
 
   few-dwords : length (dwordsOf input) ≤ 1024
   few-dwords = let l = length-dwords input in omega arith
 
   few : length cs ≤ 1024
-  few = let p = passed-count (target chip 2048) (dwordsOf input) in let q = few-dwords in omega arith
+  few = let p = passed-count (targetOf chip 2048) (dwordsOf input) in let q = few-dwords in omega arith
 
-  decides : w ≡ decisionOf (target chip 2048) 16384 (dwordsOf input)
-  decides = ew ∙ ap (decisionOf (target chip 2048) 16384) (in-none input)
+  decides : w ≡ decisionOf (targetOf chip 2048) 16384 (dwordsOf input)
+  decides = ew ∙ ap (decisionOf (targetOf chip 2048) 16384) (in-none input)
 
-  decided-text : decided refusedLine (λ c d. linesOf cs ++ acceptedLine c d) (target chip 2048) 16384 (dwordsOf input) ≡ batchText chip (dwordsOf input)
+  decided-text : decided refusedLine (λ c d. linesOf cs ++ acceptedLine c d) (targetOf chip 2048) 16384 (dwordsOf input) ≡ batchText chip (dwordsOf input)
   unfolding decided batchText
   decided-text =
-      ap (λ (t : Bool). cond t (refusedLine 1 0) (atStop refusedLine (λ c d. linesOf cs ++ acceptedLine c d) 16384 (length cs) (readingOf (target chip 2048) (dwordsOf input) .stop)))
+      ap (λ (t : Bool). cond t (refusedLine 1 0) (atStop refusedLine (λ c d. linesOf cs ++ acceptedLine c d) 16384 (length cs) (readingOf (targetOf chip 2048) (dwordsOf input) .stop)))
       (le-ltb 16384 (length (dwordsOf input)) (let q = few-dwords in omega arith))
-      ∙ stop-text cs (readingOf (target chip 2048) (dwordsOf input) .stop) few
+      ∙ stop-text cs (readingOf (targetOf chip 2048) (dwordsOf input) .stop) few
 
   pub refused-written : (m p : ℕ) (old new : List ℕ) (at r : ℕ) → w ≡ Stopped m p → Wrote old at (refusedLine m p) new r → Wrote old at (batchText chip (dwordsOf input)) new r
   refused-written m p old new at r e =
-      known-as (by-refusal refusedLine (λ c d. linesOf cs ++ acceptedLine c d) (target chip 2048) 16384 (dwordsOf input) w decides m p (refusedLine m p) e refl ∙ decided-text)
+      known-as (by-refusal refusedLine (λ c d. linesOf cs ++ acceptedLine c d) (targetOf chip 2048) 16384 (dwordsOf input) w decides m p (refusedLine m p) e refl ∙ decided-text)
 
   module _ (c d o : ℕ) (e : w ≡ Ended c d o) where
     count : length cs ≡ c
-    count = fits-commands (target chip 2048) 16384 (dwordsOf input) w c d o decides e
+    count = fits-commands (targetOf chip 2048) 16384 (dwordsOf input) w c d o decides e
 
     pub few-commands : c ≤ 1024
     few-commands = let p = count in let q = few in omega arith
 
     -- records is the record buffer at entry of the second pass, and records′ at its exit
     module _ (records : List ℕ) (z : length records ≡ 16384) where
-      pub records-room : 16 * length (readingOf (target chip 2048) (dwordsIn [] input) .passed) ≤ length (dwordsIn records [])
+      pub records-room : 16 * length (readingOf (targetOf chip 2048) (dwordsIn [] input) .passed) ≤ length (dwordsIn records [])
       records-room =
           let l : length (dwordsIn records []) ≡ length records = ap length (in-dwords records [] refl) in
-          let n : length (readingOf (target chip 2048) (dwordsIn [] input) .passed) ≡ length cs = ap (λ (b : List ℕ). length (readingOf (target chip 2048) b .passed)) (in-none input) in
+          let n : length (readingOf (targetOf chip 2048) (dwordsIn [] input) .passed) ≡ length cs = ap (λ (b : List ℕ). length (readingOf (targetOf chip 2048) b .passed)) (in-none input) in
           let q = few in omega arith
 
-      module _ (records′ none : List ℕ) (zn : length none ≡ 0) (f : buffer records′ none ≡ recorded putIn (target chip 2048) (dwordsIn [] input) (buffer records [])) where
+      module _ (records′ none : List ℕ) (zn : length none ≡ 0) (f : buffer records′ none ≡ recorded putIn (targetOf chip 2048) (dwordsIn [] input) (buffer records [])) where
         filled : records′ ≡ written set cs 0 records
         filled =
-            sym (in-dwords records′ none zn) ∙ ap (λ (x : Buffer). x .view) f ∙ written-view (readingOf (target chip 2048) (dwordsIn [] input) .passed) 0 (buffer records [])
-            ∙ ap (λ (b : List ℕ). recorded set (target chip 2048) b (dwordsIn records [])) (in-none input)
+            sym (in-dwords records′ none zn) ∙ ap (λ (x : Buffer). x .view) f ∙ written-view (readingOf (targetOf chip 2048) (dwordsIn [] input) .passed) 0 (buffer records [])
+            ∙ ap (λ (b : List ℕ). recorded set (targetOf chip 2048) b (dwordsIn records [])) (in-none input)
             ∙ ap (written set cs 0) (in-dwords records [] refl)
 
         pub kinds-named : KindsNamed records′ c
         kinds-named =
-            let n = records-named cs records (let q = few in omega arith) (kinds-known (target chip 2048) (dwordsOf input)) in
+            let n = records-named cs records (let q = few in omega arith) (kinds-known (targetOf chip 2048) (dwordsOf input)) in
             subst₂ KindsNamed (sym filled) count n
 
         lines-are : recordLines records′ c ≡ linesOf cs
@@ -94,7 +94,7 @@ module _ (chip : Chip) (input : List ℕ) (h : length input ≤ 4096) (w : Scann
         pub accepted-written : (old mid new : List ℕ) (at j r : ℕ) → at ≤ length old → Wrote old at (recordLines records′ c) mid j → Wrote mid j (acceptedLine c d) new r →
             Wrote old at (batchText chip (dwordsOf input)) new r
         accepted-written old mid new at j r a u v =
-            known-as (by-success refusedLine (λ c d. linesOf cs ++ acceptedLine c d) (target chip 2048) 16384 (dwordsOf input) w decides c d o (linesOf cs ++ acceptedLine c d) e refl ∙ decided-text)
+            known-as (by-success refusedLine (λ c d. linesOf cs ++ acceptedLine c d) (targetOf chip 2048) 16384 (dwordsOf input) w decides c d o (linesOf cs ++ acceptedLine c d) e refl ∙ decided-text)
             (then a (known-as lines-are u) v)
 
 -- the mark, then the rest

@@ -5,7 +5,7 @@ use Prim.Native.Nat.{ℕ}
 use lib.Dec.{ltb}
 use lib.ListN.{length, drop}
 use Rattle.chips.specs.declared.Chip.{Chip}
-use Rattle.chips.specs.Chips.{target}
+use Rattle.chips.specs.Chips.{targetOf}
 use Rattle.words.specs.Dwords.{dwordsOf}
 use Rattle.command.specs.Order.{Command}
 use Rattle.reading.specs.Reading.{Stop, ended, stopped, readingOf}
@@ -24,7 +24,7 @@ readText cs (stopped number place) = refusedLine number place
 
 -- "as little-endian dwords, capacity 2,048 rows"
 unfoldable pub batchText : Chip → List ℕ → List ℕ
-batchText c b = let r = readingOf (target c 2048) b in readText (r .passed) (r .stop)
+batchText c b = let r = readingOf (targetOf c 2048) b in readText (r .passed) (r .stop)
 
 -- 17, of the input
 abbrev pub oddText : List ℕ → List ℕ

@@ -47,7 +47,8 @@ fn odd(text: &mut [u8], at: usize, input: &[u8]) -> usize
 // occurs.
 fn outcome(chip: Chip, text: &mut [u8], at: usize, input: &[u8]) -> usize
     requires { ⌜ (length (now input) ≤ 4096) × (at + 47155 ≤ length (now text)) ⌝ }
-    ensures { λ r. ⌜ Wrote (now (text .entry)) at (batchText chip (dwordsOf (now (input .entry)))) (now (text .exit)) r × (r ≤ at + 47155) ⌝ }
+    ensures { λ r. ⌜ Wrote (now (text .entry)) at (batchText chip (dwordsOf (now (input .entry)))) (now (text .exit)) r
+        × (r ≤ at + 47155) ⌝ }
 {
     let target = Target {
         chip,

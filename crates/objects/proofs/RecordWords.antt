@@ -13,7 +13,7 @@ use Rattle.deltas.specs.InPlay.{usesScoreboard, typeOf, joinedMask}
 use Rattle.deltas.specs.Lowest.{lowestAt}
 use Rattle.deltas.specs.Reach.{placeOf, cornerOf, rowsOf, nearTo, reachedFrom}
 use Rattle.deltas.proofs.Reached as deltas
-use Rattle.objects.specs.Recorded.{wordAt, vfeWordAt, stallsAt, maskAt, cornerAt, candidateOf, deltaTo, nearAt, reachedAt}
+use Rattle.objects.specs.Recorded.{wordAt, vfeWordAt, stallsAt, maskAt, cornerAt, candidateOf, deltaTo, placeAt, nearAt, reachedAt}
 
 pub word-is : (d : List ℕ) (r f i w : ℕ) → i ≡ slot r f → w ≡ getD d i 0 → w ≡ wordAt d r f
 unfolding wordAt
@@ -81,20 +81,21 @@ unfolding candidateOf
 candidate-is d r x y colour mask d6 d7 corner ex ey ec em e6 e7 en = simp (ex, ey, ec, em, e6, e7, en)
 
 -- the quick test, and what comes before it
-pub near-is : (d : List ℕ) (r corner x y p : ℕ) (t : Bool) → x ≡ wordAt d r 7 → y ≡ wordAt d r 8 → p ≡ placeOf x y → t ≡ nearTo corner p
-    → t ≡ nearAt d corner r
+pub place-is : (d : List ℕ) (r x y p : ℕ) → x ≡ wordAt d r 7 → y ≡ wordAt d r 8 → p ≡ placeOf x y → p ≡ placeAt d r
+place-is d r x y p ex ey e = e ∙ ap₂ placeOf ex ey
+
+pub near-is : (d : List ℕ) (r corner p : ℕ) (t : Bool) → p ≡ placeAt d r → t ≡ nearTo corner p → t ≡ nearAt d corner r
 unfolding nearAt
-near-is d r corner x y p t ex ey ep e = e ∙ ap (nearTo corner) (ep ∙ ap₂ placeOf ex ey)
+near-is d r corner p t ep e = e ∙ ap (nearTo corner) ep
+
+pub reached-is : (d : List ℕ) (r corner p : ℕ) (rows : List ℕ) (t : Bool) → p ≡ placeAt d r → t ≡ reachedFrom corner rows p → t ≡ reachedAt d corner rows r
+unfolding reachedAt
+reached-is d r corner p rows t ep e = e ∙ ap (reachedFrom corner rows) ep
 
 -- LAW: what is not near fails it
 pub far-unreached : (d : List ℕ) (corner : ℕ) (rows : List ℕ) (r : ℕ) → nearAt d corner r ≡ false → reachedAt d corner rows r ≡ false
 unfolding nearAt reachedAt
-far-unreached d corner rows r e = deltas.far-unreached corner (placeOf (wordAt d r 7) (wordAt d r 8)) rows e
-
-pub reached-is : (d : List ℕ) (r corner x y p : ℕ) (rows : List ℕ) (t : Bool) → x ≡ wordAt d r 7 → y ≡ wordAt d r 8 → p ≡ placeOf x y
-    → t ≡ reachedFrom corner rows p → t ≡ reachedAt d corner rows r
-unfolding reachedAt
-reached-is d r corner x y p rows t ex ey ep e = e ∙ ap (reachedFrom corner rows) (ep ∙ ap₂ placeOf ex ey)
+far-unreached d corner rows r e = deltas.far-unreached corner (placeAt d r) rows e
 
 either : (t : Bool) (l : ℕ) → l ≡ 8 → 8 ≡ cond t l 8
 either true l e = sym e

@@ -106,12 +106,16 @@ deltaTo d c r =
     cond (usesScoreboard (wordAt d r 4) (vfeWordAt d r 8) && eqb (wordAt d r 9) (c .colour))
     (lowestAt (c .x) (c .y) (c .mask) (c .d6) (c .d7) (wordAt d r 7) (wordAt d r 8)) 8
 
+-- where the object of record r stands, as one number
+abbrev pub placeAt : List ℕ → ℕ → ℕ
+placeAt d r = placeOf (wordAt d r 7) (wordAt d r 8)
+
 -- is the object of record r near enough for a delta to lead there? One that is not fails the quick test (`far-unreached` of
 -- proofs/RecordWords.antt).
 unfoldable pub nearAt : List ℕ → ℕ → ℕ → Bool
-nearAt d corner r = nearTo corner (placeOf (wordAt d r 7) (wordAt d r 8))
+nearAt d corner r = nearTo corner (placeAt d r)
 
 -- does the object of record r pass the quick test? One that does not is nobody whom a delta of the candidate leads to (`unreached` of
 -- proofs/RecordWords.antt).
 unfoldable pub reachedAt : List ℕ → ℕ → List ℕ → ℕ → Bool
-reachedAt d corner rows r = reachedFrom corner rows (placeOf (wordAt d r 7) (wordAt d r 8))
+reachedAt d corner rows r = reachedFrom corner rows (placeAt d r)

@@ -3,7 +3,7 @@ ghost use mathlib.Core.Path.{_≡_};
 ghost use lib.ListN.{length};
 ghost use Rattle.words.specs.Dwords.{lent};
 ghost use Rattle.objects.specs.Recorded.{RecordIn, wordAt, isObject, stallsAt, candidateOf, deltaTo};
-ghost use Rattle.objects.specs.Recorded.{maskAt, cornerAt, nearAt, reachedAt};
+ghost use Rattle.objects.specs.Recorded.{maskAt, cornerAt, placeAt, nearAt, reachedAt};
 use crate::Candidate;
 use crate::record_words::record_word;
 use crate::record_words::vfe_word;
@@ -78,15 +78,20 @@ pub fn candidate(rd: &[u32], rb: &[u8], r: usize) -> Candidate
     }
 }
 
+// Where the object of record r stands, as one number.
+fn place_at(rd: &[u32], rb: &[u8], r: usize) -> u64
+    requires { ⌜ RecordIn (lent rd rb) r ⌝ }
+    ensures { λ p. ⌜ p ≡ placeAt (lent (rd .entry) (rb .entry)) r ⌝ }
+{
+    place(record_word(rd, rb, r, 7), record_word(rd, rb, r, 8))
+}
+
 // Is the object of record r near enough to the candidate of a corner for any delta to lead there?
 pub fn near(rd: &[u32], rb: &[u8], corner: u64, r: usize) -> bool
     requires { ⌜ RecordIn (lent rd rb) r ⌝ }
     ensures { λ t. ⌜ t ≡ nearAt (lent (rd .entry) (rb .entry)) corner r ⌝ }
 {
-    reach::near(
-        corner,
-        place(record_word(rd, rb, r, 7), record_word(rd, rb, r, 8)),
-    )
+    reach::near(corner, place_at(rd, rb, r))
 }
 
 // A quick test of the object of record r, which most objects fail: no delta of the candidate leads to one that does. The corner is the
@@ -95,11 +100,7 @@ pub fn reached(rd: &[u32], rb: &[u8], corner: u64, rows: &[u32], r: usize) -> bo
     requires { ⌜ RecordIn (lent rd rb) r × (length (now rows) ≡ 16) ⌝ }
     ensures { λ t. ⌜ t ≡ reachedAt (lent (rd .entry) (rb .entry)) corner (now (rows .entry)) r ⌝ }
 {
-    reach::reached(
-        corner,
-        rows,
-        place(record_word(rd, rb, r, 7), record_word(rd, rb, r, 8)),
-    )
+    reach::reached(corner, rows, place_at(rd, rb, r))
 }
 
 // The lowest delta of a candidate at the object of record r, if that one uses a scoreboard and colours agree; else 8. Who is looked at has

@@ -1,5 +1,4 @@
--- Document 01, "Proved examples": P1 to P10, one table, on Gen7; and one batch for the chips of document 02, One. Each has its whole answer
--- and the bytes that it speaks of.
+-- Document 01, "Proved examples": P1 to P10, one table, on Gen7. Each has its whole answer and the bytes that it speaks of.
 use mathlib.Core.Path.{_≡_}
 use mathlib.Core.List.{List, [], _∷_, _++_}
 use Prim.Native.Nat.{ℕ}
@@ -49,10 +48,6 @@ worked =
     ∷ 0x7100_0004 ∷ 0 ∷ 0 ∷ 0 ∷ 0 ∷ 0
     ∷ 0x0500_0000
     ∷ []
-
--- a VFE, a MEDIA_GATEWAY_STATE and END
-abbrev pub gateway : List ℕ
-gateway = 0x7000_0006 ∷ 0 ∷ 0x0007_0100 ∷ 0 ∷ 0x0002_0004 ∷ 0 ∷ 0 ∷ 0 ∷ 0x7003_0000 ∷ 0x0003_0201 ∷ 0x0500_0000 ∷ []
 
 -- two objects at Y = 0 and the X given, both with delta 0 in play, which is -1 in X and 0 in Y; not stalling
 abbrev pub blocks : ℕ → ℕ → List ℕ
@@ -115,8 +110,4 @@ table =
     ∷ Recording (recording 0 3 1 (event 4 0 0 0 0 0 0)) (ended closed) (0 ∷ []) (1 ∷ 0 ∷ []) 0 (1 ∷ [])
     -- "P10 a self-forward under its own ack register: the ack's four bytes win"; both are register 0, and the forward is of 8 bytes
     ∷ Recording (recording 1 255 1 (event 2 1 0 0 3 0 0)) (ended closed) (0 ∷ []) none 0 (0 ∷ 0 ∷ 0 ∷ 0 ∷ 7 ∷ 7 ∷ 7 ∷ 7 ∷ 1 ∷ [])
-    -- "MEDIA_GATEWAY_STATE on Gen7 stays 3"; "18, chip neither 6 nor 7, checked before all others"
-    ∷ Batch 6 6 gateway (acceptedAnswer 3 11)
-    ∷ Batch 7 6 gateway (refusedAnswer 3 8)
-    ∷ Batch 8 6 gateway (refusedAnswer 18 0)
     ∷ []

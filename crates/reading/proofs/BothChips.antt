@@ -8,7 +8,7 @@ use lib.Dec.{eqb}
 use Rattle.chips.specs.declared.Chip.{Chip}
 use Rattle.chips.specs.declared.Chip.the-variants.{Gen6, Gen7}
 use Rattle.chips.specs.declared.Target.{Target}
-use Rattle.chips.specs.Chips.{target}
+use Rattle.chips.specs.Chips.{targetOf}
 use Rattle.command.specs.declared.State.{State}
 use Rattle.judge.specs.declared.Verdict.{Verdict}
 use Rattle.judge.specs.declared.Verdict.the-variants.{Fault, Passed}
@@ -33,10 +33,10 @@ same-rest false c end r r′ same w w′ = ap (andThen c) (same w w′)
 
 module _ (capacity : ℕ) where
   abbrev six : Target
-  six = target Gen6 capacity
+  six = targetOf Gen6 capacity
 
   abbrev seven : Target
-  seven = target Gen7 capacity
+  seven = targetOf Gen7 capacity
 
   -- one command, and the rest
   module _ (d : ℕ) (ds : List ℕ) (at : ℕ) (cs : List Command) (ih : (n a : ℕ) (xs : List Command)

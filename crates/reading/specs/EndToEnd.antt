@@ -28,6 +28,7 @@ pub record Stands (target : Target) (b : List ℕ) (cs : List Command) (at : ℕ
   pub whole : at + c .total ≤ length b
   -- one of the kinds of the chip's table
   pub known : c .kind < 9
+  -- "MEDIA_GATEWAY_STATE on Gen7 stays 3"
   pub gatewayState : c .kind ≡ 8 → hasGatewayState (target .chip) ≡ true
 
 -- From a place on, after the commands cs: the commands of a list stand one right after the other, and then reading stops.

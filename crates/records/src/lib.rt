@@ -140,8 +140,8 @@ fn and_again(
     }
 }
 
-// Writes the record of the command of kind k at a place, whose first dword is d, and of those after it that start with the same dword, where
-// k is rarely met.
+// Writes the record of the command of kind k at a place, whose first dword is d, and of those after it that start with the same dword,
+// where k is rarely met.
 fn record_other(
     dw: &[u32],
     by: &[u8],

@@ -205,10 +205,10 @@ module _ (chip capacity : ℕ) (batch run records states : List ℕ) where
   unfolding orderOf
   claimed =
       record {
-        unknownChip = on-none (refusedResult records states) (λ c. orderFor (chips.target c capacity) batch run records states) chip;
-        named = λ c n. subst (Claims (chips.target c capacity) batch run records states (recorded set (chips.target c capacity) batch records) (decisionOf (chips.target c capacity) (length records) batch))
-            (sym (on-named (refusedResult records states) (λ c. orderFor (chips.target c capacity) batch run records states) chip c n))
-            (claimed-for (chips.target c capacity) batch run records states);
+        unknownChip = on-none (refusedResult records states) (λ c. orderFor (chips.targetOf c capacity) batch run records states) chip;
+        named = λ c n. subst (Claims (chips.targetOf c capacity) batch run records states (recorded set (chips.targetOf c capacity) batch records) (decisionOf (chips.targetOf c capacity) (length records) batch))
+            (sym (on-named (refusedResult records states) (λ c. orderFor (chips.targetOf c capacity) batch run records states) chip c n))
+            (claimed-for (chips.targetOf c capacity) batch run records states);
       }
 
   -- LAW: the byte entry
@@ -216,10 +216,10 @@ module _ (chip capacity : ℕ) (batch run records states : List ℕ) where
   unfolding bytesOrderOf
   bytes-claimed =
       record {
-        unknownChip = on-none (refusedResult records states) (λ c. bytesOrderFor (chips.target c capacity) batch run records states) chip;
-        named = λ c n. subst (Claims (chips.target c capacity) (dwordsOf batch) (dwordsOf run) records states (recorded putLe (chips.target c capacity) (dwordsOf batch) records) (bytesDecision (chips.target c capacity) batch run records))
-            (sym (on-named (refusedResult records states) (λ c. bytesOrderFor (chips.target c capacity) batch run records states) chip c n))
-            (bytes-claimed-for (chips.target c capacity) batch run records states);
+        unknownChip = on-none (refusedResult records states) (λ c. bytesOrderFor (chips.targetOf c capacity) batch run records states) chip;
+        named = λ c n. subst (Claims (chips.targetOf c capacity) (dwordsOf batch) (dwordsOf run) records states (recorded putLe (chips.targetOf c capacity) (dwordsOf batch) records) (bytesDecision (chips.targetOf c capacity) batch run records))
+            (sym (on-named (refusedResult records states) (λ c. bytesOrderFor (chips.targetOf c capacity) batch run records states) chip c n))
+            (bytes-claimed-for (chips.targetOf c capacity) batch run records states);
       }
 
 pub all-claimed : AllClaimed

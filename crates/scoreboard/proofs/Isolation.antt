@@ -48,17 +48,17 @@ for-bytes-order target b b′ run r states h =
     (ap (wholeDwords refused run) (alike-in putLe target (length r / 4) (dwordsOf b) (dwordsOf b′) (dwordsOf run) r states (bytes-alike target b b′ h)))
 
 -- LAW: one answer, one record buffer and the same state bytes at exit
-pub alike-order : (chip capacity : ℕ) (b b′ run r states : List ℕ) → ForChip chip (λ c. Alike (chips.target c capacity) b b′)
+pub alike-order : (chip capacity : ℕ) (b b′ run r states : List ℕ) → ForChip chip (λ c. Alike (chips.targetOf c capacity) b b′)
     → orderOf chip capacity b run r states ≡ orderOf chip capacity b′ run r states
 unfolding orderOf
 alike-order chip capacity b b′ run r states h =
-    same-chip (refusedResult r states) (λ c. orderFor (chips.target c capacity) b run r states) (λ c. orderFor (chips.target c capacity) b′ run r states) chip
-    (λ c n. for-order (chips.target c capacity) b b′ run r states (h c n))
+    same-chip (refusedResult r states) (λ c. orderFor (chips.targetOf c capacity) b run r states) (λ c. orderFor (chips.targetOf c capacity) b′ run r states) chip
+    (λ c n. for-order (chips.targetOf c capacity) b b′ run r states (h c n))
 
 -- the same over bytes
-pub alike-bytes-order : (chip capacity : ℕ) (b b′ run r states : List ℕ) → ForChip chip (λ c. BytesAlike (chips.target c capacity) b b′)
+pub alike-bytes-order : (chip capacity : ℕ) (b b′ run r states : List ℕ) → ForChip chip (λ c. BytesAlike (chips.targetOf c capacity) b b′)
     → bytesOrderOf chip capacity b run r states ≡ bytesOrderOf chip capacity b′ run r states
 unfolding bytesOrderOf
 alike-bytes-order chip capacity b b′ run r states h =
-    same-chip (refusedResult r states) (λ c. bytesOrderFor (chips.target c capacity) b run r states) (λ c. bytesOrderFor (chips.target c capacity) b′ run r states) chip
-    (λ c n. for-bytes-order (chips.target c capacity) b b′ run r states (h c n))
+    same-chip (refusedResult r states) (λ c. bytesOrderFor (chips.targetOf c capacity) b run r states) (λ c. bytesOrderFor (chips.targetOf c capacity) b′ run r states) chip
+    (λ c n. for-bytes-order (chips.targetOf c capacity) b b′ run r states (h c n))

@@ -198,19 +198,19 @@ module _ (chip capacity : ℕ) (b run r states : List ℕ) (v : Named) (e : v �
   pub unknown-order : (a : Answer) → v ≡ Unknown → a ≡ refusedAnswer 18 0 → record { answer = a; records = r; states = states } ≡ orderOf chip capacity b run r states
   unfolding orderOf
   unknown-order a u q =
-      chip-unknown (refusedResult r states) (λ c. orderFor (chips.target c capacity) b run r states) chip v e _ u
+      chip-unknown (refusedResult r states) (λ c. orderFor (chips.targetOf c capacity) b run r states) chip v e _ u
       (ap (λ (x : Answer). record { answer = x; records = r; states = states }) q)
 
-  pub known-order : (g : Result (List ℕ)) (c : Chip) → v ≡ Known c → g ≡ orderFor (chips.target c capacity) b run r states → g ≡ orderOf chip capacity b run r states
+  pub known-order : (g : Result (List ℕ)) (c : Chip) → v ≡ Known c → g ≡ orderFor (chips.targetOf c capacity) b run r states → g ≡ orderOf chip capacity b run r states
   unfolding orderOf
-  known-order g c k q = chip-known (refusedResult r states) (λ c. orderFor (chips.target c capacity) b run r states) chip v e g c k q
+  known-order g c k q = chip-known (refusedResult r states) (λ c. orderFor (chips.targetOf c capacity) b run r states) chip v e g c k q
 
   pub unknown-bytes-order : (a : Answer) → v ≡ Unknown → a ≡ refusedAnswer 18 0 → record { answer = a; records = r; states = states } ≡ bytesOrderOf chip capacity b run r states
   unfolding bytesOrderOf
   unknown-bytes-order a u q =
-      chip-unknown (refusedResult r states) (λ c. bytesOrderFor (chips.target c capacity) b run r states) chip v e _ u
+      chip-unknown (refusedResult r states) (λ c. bytesOrderFor (chips.targetOf c capacity) b run r states) chip v e _ u
       (ap (λ (x : Answer). record { answer = x; records = r; states = states }) q)
 
-  pub known-bytes-order : (g : Result (List ℕ)) (c : Chip) → v ≡ Known c → g ≡ bytesOrderFor (chips.target c capacity) b run r states → g ≡ bytesOrderOf chip capacity b run r states
+  pub known-bytes-order : (g : Result (List ℕ)) (c : Chip) → v ≡ Known c → g ≡ bytesOrderFor (chips.targetOf c capacity) b run r states → g ≡ bytesOrderOf chip capacity b run r states
   unfolding bytesOrderOf
-  known-bytes-order g c k q = chip-known (refusedResult r states) (λ c. bytesOrderFor (chips.target c capacity) b run r states) chip v e g c k q
+  known-bytes-order g c k q = chip-known (refusedResult r states) (λ c. bytesOrderFor (chips.targetOf c capacity) b run r states) chip v e g c k q

@@ -5,7 +5,7 @@ use mathlib.Core.List.{List}
 use lib.Dec.{ltb}
 use lib.ListN.{length, set}
 use Rattle.chips.specs.declared.Target.{Target}
-use Rattle.chips.specs.Chips.{target, onChip}
+use Rattle.chips.specs.Chips.{targetOf, onChip}
 use Rattle.words.specs.Dwords.{dwordsOf, putLe, Buffer, putIn}
 use Rattle.reading.specs.Reading.{readingOf}
 use Rattle.reading.specs.Decision.{decided, wholeDwords}
@@ -15,7 +15,7 @@ use Rattle.runs.specs.declared.Verdict.{Verdict}
 use Rattle.runs.specs.Run.{ran}
 use Rattle.scoreboard.specs.declared.Answer.{Answer}
 
--- the objects of a batch, for a chip and a target in rows
+-- the objects of a batch, for a chip and a capacity in rows
 abbrev pub objectsIn : Target → List ℕ → List Object
 objectsIn target b = let cs = readingOf target b .passed in objectsOf cs cs
 
@@ -37,8 +37,8 @@ pub record Result (B : Type 0) : Type 0 where
 abbrev pub refusedResult : {B : Type 0} → B → List ℕ → ℕ → ℕ → Result B
 refusedResult r states number place = record { answer = refusedAnswer number place; records = r; states = states }
 
--- The check for a known chip, given the target in rows, the batch b, the run, the record buffer r, with room for so many words, and the state bytes. `put`
--- stores a word of the record buffer.
+-- The check for a known chip, given what the batch is judged for, the batch b, the run, the record buffer r, with room for so many words,
+-- and the state bytes. `put` stores a word of the record buffer.
 module _ {B : Type 0} (put : B → ℕ → ℕ → B) (target : Target) (room : ℕ) (b run : List ℕ) (r : B) (states : List ℕ) where
   -- "Else the records are filled", and the run goes on to its end or to "the first bad event", "earlier effects kept"
   abbrev pub ranResult : Result B
@@ -71,7 +71,7 @@ bytesOrderFor target b run r states =
 
 -- The entries, for any number as the chip: 18 before all else, and nothing lent changes.
 unfoldable pub orderOf : ℕ → ℕ → List ℕ → List ℕ → List ℕ → List ℕ → Result (List ℕ)
-orderOf chip capacity b run r states = onChip (refusedResult r states) (λ c. orderFor (target c capacity) b run r states) chip
+orderOf chip capacity b run r states = onChip (refusedResult r states) (λ c. orderFor (targetOf c capacity) b run r states) chip
 
 unfoldable pub bytesOrderOf : ℕ → ℕ → List ℕ → List ℕ → List ℕ → List ℕ → Result (List ℕ)
-bytesOrderOf chip capacity b run r states = onChip (refusedResult r states) (λ c. bytesOrderFor (target c capacity) b run r states) chip
+bytesOrderOf chip capacity b run r states = onChip (refusedResult r states) (λ c. bytesOrderFor (targetOf c capacity) b run r states) chip

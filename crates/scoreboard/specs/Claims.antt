@@ -7,7 +7,7 @@ use mathlib.Core.List.{List}
 use Prim.Native.Nat.{ℕ, _/_, _<_, _≤_}
 use lib.ListN.{length, getD, take, set}
 use Rattle.chips.specs.declared.Target.{Target}
-use Rattle.chips.specs.Chips.{target, Unnamed, ForChip}
+use Rattle.chips.specs.Chips.{targetOf, Unnamed, ForChip}
 use Rattle.words.specs.Dwords.{dwordsOf, putLe}
 use Rattle.reading.specs.declared.Scanned.{Scanned}
 use Rattle.reading.specs.declared.Scanned.the-variants as variants
@@ -23,8 +23,8 @@ use Rattle.scoreboard.specs.Answers.{objectsIn, refusedAnswer, Result, r
 abbrev pub TurnedAway : ℕ → Type 0
 TurnedAway n = ((1 ≤ n) × (n ≤ 10)) ⊎ (n ≡ 17)
 
--- Of a batch and a run for a known chip, with the records and states lent: what the check gives back. `filled` is the record buffer with the batch's
--- records in it, and `decision` what the batch check decides of the batch.
+-- Of a batch and a run for a known chip, with the records and states lent: what the check gives back. `filled` is the record buffer with
+-- the batch's records in it, and `decision` what the batch check decides of the batch.
 module _ (target : Target) (batch run records states filled : List ℕ) (decision : Scanned) (given : Result (List ℕ)) where
   abbrev pub answer : Answer
   answer = given .answer
@@ -119,16 +119,16 @@ bytesDecision target batch run records =
 pub record Claimed (chip capacity : ℕ) (batch run records states : List ℕ) : Type 0 where
   -- 18: "chip neither 6 nor 7, checked before all others"; "changes nothing lent and has place 0"
   pub unknownChip : Unnamed chip → orderOf chip capacity batch run records states ≡ refusedResult records states 18 0
-  -- else what is claimed for the chip named, of which 18 is no number
-  pub named : ForChip chip (λ c. Claims (target c capacity) batch run records states (recorded set (target c capacity) batch records)
-      (decisionOf (target c capacity) (length records) batch) (orderOf chip capacity batch run records states))
+  -- else, for the chip named, the claims above, in which 18 is no number
+  pub named : ForChip chip (λ c. Claims (targetOf c capacity) batch run records states (recorded set (targetOf c capacity) batch records)
+      (decisionOf (targetOf c capacity) (length records) batch) (orderOf chip capacity batch run records states))
 
 -- the byte entry, of the dwords of the batch and of the run
 pub record BytesClaimed (chip capacity : ℕ) (batch run records states : List ℕ) : Type 0 where
   pub unknownChip : Unnamed chip → bytesOrderOf chip capacity batch run records states ≡ refusedResult records states 18 0
-  pub named : ForChip chip (λ c. Claims (target c capacity) (dwordsOf batch) (dwordsOf run) records states
-      (recorded putLe (target c capacity) (dwordsOf batch) records)
-      (bytesDecision (target c capacity) batch run records) (bytesOrderOf chip capacity batch run records states))
+  pub named : ForChip chip (λ c. Claims (targetOf c capacity) (dwordsOf batch) (dwordsOf run) records states
+      (recorded putLe (targetOf c capacity) (dwordsOf batch) records)
+      (bytesDecision (targetOf c capacity) batch run records) (bytesOrderOf chip capacity batch run records states))
 
 -- every order check, over dwords and over bytes, whatever is lent
 abbrev pub AllClaimed : Type 0

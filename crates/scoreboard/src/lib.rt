@@ -43,7 +43,7 @@ fn check_for(
     )
 }
 
-// The same over little-endian bytes: the batch's 17, then the run's, before all else.
+// The same over little-endian bytes: the batch's 17, then the run's, before all else but 18, which `check_bytes` asks.
 fn check_bytes_for(
     target: Target,
     batch: &[u8],

@@ -676,7 +676,7 @@ impl Sweep {
     /// The batch check's own sweep, thinned out, with runs that may fit.
     fn refused_batches(&mut self, seed: u64) {
         for (index, batch) in batch::sweep(seed).into_iter().enumerate() {
-            if index % 11 == 0 {
+            if index % 5 == 0 {
                 let events = self.random.below(4);
                 let run = junk_run(&mut self.random, 1, events);
                 let odd = self.random.pick(&[0, 0, 0, 1, 2, 3]);
