@@ -49,6 +49,17 @@ static void put_each_to_end(uint32_t command)
     batch[dwords++] = 0x05000000; /* END */
 }
 
+/* Every dword a command, and none the same as the one before, so that no loop takes two of them. */
+static void fill_single(void)
+{
+    dwords = 0;
+    while (dwords < MOST - 1) {
+        batch[dwords] = dwords % 2 == 0 ? 0x02000000 : 0; /* MI_FLUSH, no-op */
+        dwords++;
+    }
+    put_each_to_end(0);
+}
+
 /* Type 1, all eight deltas in play: seven times (1, 1), then (-1, 1). */
 static void put_scoreboard(void)
 {
@@ -56,29 +67,6 @@ static void put_scoreboard(void)
     static const uint32_t descriptor_load[] = {0x70020002, 0, 32, 0x1000};
     put(vfe, sizeof vfe / sizeof vfe[0]);
     put(descriptor_load, sizeof descriptor_load / sizeof descriptor_load[0]);
-}
-
-/* The chip's kinds at random, as no processor foresees which comes next; VFE and OBJECT aside, as with them batches took less time. */
-static void fill_kinds(void)
-{
-    static const struct {
-        size_t len;
-        uint32_t dwords[4];
-    } kinds[] = {
-        {1, {0}},                         /* no-op */
-        {1, {0x02000000}},                /* MI_FLUSH */
-        {2, {0x70040000, 0}},             /* state flush */
-        {4, {0x70010002, 0, 32, 0x1000}}, /* CURBE load */
-        {4, {0x70020002, 0, 32, 0x1000}}, /* descriptor load */
-        {2, {0x70030000, 0x00030201}},    /* gateway state, of Gen6 alone */
-    };
-    dwords = 0;
-    put_scoreboard();
-    while (dwords + 4 < MOST) {
-        uint32_t kind = random_below(chip == MPL_GEN6 ? 6 : 5);
-        put(kinds[kind].dwords, kinds[kind].len);
-    }
-    put_each_to_end(0); /* no-ops */
 }
 
 /*
@@ -191,10 +179,10 @@ static const struct subject {
     uint64_t (*ask)(void);
     size_t stack_most;
 } subjects[] = {
-    {"mpl_check_batch", "six kinds at random", MPL_GEN6, fill_kinds, ask_batch, 512},
-    {"mpl_check_batch", "five kinds at random", MPL_GEN7, fill_kinds, ask_batch, 512},
-    {"mpl_check_batch_dwords", "six kinds at random", MPL_GEN6, fill_kinds, ask_batch_dwords, 512},
-    {"mpl_check_batch_dwords", "five kinds at random", MPL_GEN7, fill_kinds, ask_batch_dwords, 512},
+    {"mpl_check_batch", "MI_FLUSHes, no-ops in turn", MPL_GEN6, fill_single, ask_batch, 512},
+    {"mpl_check_batch", "MI_FLUSHes, no-ops in turn", MPL_GEN7, fill_single, ask_batch, 512},
+    {"mpl_check_batch_dwords", "MI_FLUSHes, no-ops in turn", MPL_GEN6, fill_single, ask_batch_dwords, 512},
+    {"mpl_check_batch_dwords", "MI_FLUSHes, no-ops in turn", MPL_GEN7, fill_single, ask_batch_dwords, 512},
     {"mpl_check_order", "2,728 OBJECTs, none finished", MPL_GEN6, fill_objects, ask_order, 1024},
     {"mpl_check_order", "2,728 OBJECTs, none finished", MPL_GEN7, fill_objects, ask_order, 1024},
     {"mpl_check_order_dwords", "2,728 OBJECTs, none finished", MPL_GEN6, fill_objects, ask_order_dwords, 1024},

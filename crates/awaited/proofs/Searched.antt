@@ -107,20 +107,11 @@ unfolding testedAt
 half-unreached true d corner rows r e = e
 half-unreached false d corner rows r e = far-unreached d corner rows r e
 
--- records passed over by one leap, then by another, fail the whole test
-module _ (d : List ℕ) (corner : ℕ) (rows : List ℕ) (a b r : ℕ) where
-  abbrev f : Bool → ℕ → Bool
-  f w = testedAt w d corner rows
-
-  pub passed-both : (w v : Bool) (s : ℕ) → Passed (f w) a b r → Passed (f v) r b s → Passed (reachedAt d corner rows) a b s
-  passed-both w v s h k =
-      record {
-        after = let x = h .after in let y = k .after in omega arith;
-        within = k .within;
-        none = λ i p q.
-            by-test (ltb i r) (λ t. half-unreached w d corner rows i (h .none i p (ltb-true i r t)))
-            (λ t. half-unreached v d corner rows i (k .none i (ltb-false i r t) q));
-      }
+-- what is passed over by either fails the whole test
+pub passed-whole : (d : List ℕ) (corner : ℕ) (rows : List ℕ) (w : Bool) (a b r : ℕ) → Passed (testedAt w d corner rows) a b r
+    → Passed (reachedAt d corner rows) a b r
+passed-whole d corner rows w a b r h =
+    record { after = h .after; within = h .within; none = λ i p q. half-unreached w d corner rows i (h .none i p q) }
 
 -- four of them at a time
 module _ (f : ℕ → Bool) (r : ℕ) (s : Bool) (es : s ≡ f r) where

@@ -90,14 +90,12 @@ fn leap(
     r
 }
 
-// The first record within reach, or `to`. Those that are not even near are passed over first; whether the test is a whole one is a constant
-// in each call, so that each gets a loop of its own.
+// The first record within reach, or `to`.
 fn first_reached(rd: &[u32], rb: &[u8], corner: u64, rows: &[u32], from: usize, to: usize) -> usize
     requires { ⌜ RecordsIn (lent rd rb) to × (from ≤ to) × (length (now rows) ≡ 16) ⌝ }
     ensures { λ r. ⌜ Passed (reachedAt (lent (rd .entry) (rb .entry)) corner (now (rows .entry))) from to r ⌝ }
 {
-    let far = leap(rd, rb, false, corner, rows, from, to);
-    let mut r = leap(rd, rb, true, corner, rows, far, to);
+    let mut r = leap(rd, rb, true, corner, rows, from, to);
     while r < to {
         if reached(rd, rb, corner, rows, r) {
             return r;
@@ -107,7 +105,8 @@ fn first_reached(rd: &[u32], rb: &[u8], corner: u64, rows: &[u32], from: usize, 
     r
 }
 
-// The first record awaited before record `to`, or `to`; before `from` there is none.
+// The first record awaited before record `to`, or `to`; before `from` there is none. Records that are not even near are passed over first,
+// which is quicker; whether the test is a whole one is a constant in each call, so that each gets a loop of its own.
 fn first_awaited(
     rd: &[u32],
     rb: &[u8],
@@ -121,7 +120,7 @@ fn first_awaited(
         × NoneBelow (awaitedRecord (lent rd rb) (now states) c) from ⌝ }
     ensures { λ r. ⌜ r ≡ findFirst to (awaitedRecord (lent (rd .entry) (rb .entry)) (now (states .entry)) c) ⌝ }
 {
-    let mut r = from;
+    let mut r = leap(rd, rb, false, c.corner, rows, from, to);
     while r < to {
         r = first_reached(rd, rb, c.corner, rows, r, to);
         if r == to {

@@ -3,28 +3,25 @@ use Prim.Native.Nat.{_-_}
 use Rattle.words.specs.Dwords.{dwordsIn}
 use Rattle.objects.specs.Recorded.{reachedAt}
 use Rattle.awaited.specs.Search.{Passed}
-use Rattle.awaited.proofs.Searched.{passed-next, passed-both}
+use Rattle.awaited.proofs.Searched.{passed-next, passed-whole}
 use borrow.Author.Needs.{needs}
 use Rattle.awaited.proofs.over_records.first_reached.Statement.{statement}
 use Rattle.awaited.proofs.over_records.first_reached.Tie as tie
 
 abbrev Inv-loop : tie.InvT-loop
-Inv-loop rd rb corner rows from to far r₀ r = Passed (reachedAt (dwordsIn rd rb) corner rows) from to r
+Inv-loop rd rb corner rows from to r₀ r = Passed (reachedAt (dwordsIn rd rb) corner rows) from to r
 
 abbrev μ-loop : tie.MeasureT-loop
-μ-loop rd rb corner rows from to far r₀ r = to - r
+μ-loop rd rb corner rows from to r₀ r = to - r
 
 leap-requires : tie.Need-leap-requires Inv-loop μ-loop
 leap-requires c κs = c .before .before .before .pre
 
-leap-requires-2 : tie.Need-leap-requires-2 Inv-loop μ-loop
-leap-requires-2 c κs = (c .before .before .before .before .pre .0, c .leap .ensures .within, c .before .before .before .before .pre .2)
-
 loop-holds : tie.Need-loop-holds Inv-loop μ-loop
-loop-holds c = passed-both _ _ _ _ _ _ _ _ _ (c .before .leap .ensures) (c .leap2 .ensures)
+loop-holds c = passed-whole _ _ _ _ _ _ _ (c .leap .ensures)
 
 reached-requires : tie.Need-reached-requires Inv-loop μ-loop
-reached-requires c κs = (c .before .before .before .before .before .before .before .pre .0 _ (c .loop-test .taken), c .before .before .before .before .before .before .before .pre .2)
+reached-requires c κs = (c .before .before .before .before .before .before .pre .0 _ (c .loop-test .taken), c .before .before .before .before .before .before .pre .2)
 
 returns : tie.Need-returns Inv-loop μ-loop
 returns c = c .before .before .before .loop .inv
@@ -48,7 +45,6 @@ first-reached-spec =
     Inv-loop
     μ-loop
     leap-requires
-    leap-requires-2
     loop-holds
     reached-requires
     returns
