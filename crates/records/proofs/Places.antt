@@ -89,10 +89,12 @@ several-by b low n Done r g o = subst (GoesOn b low n) (sym o) g
 several-by b low n (From a s) Done g o = tt
 several-by b low n (From a s) (From to s′) g o = let p = g .0 in let q = o .0 in (omega arith, o .1)
 
-pub several-goes : (b : List ℕ) (low : ℕ) (rd rb rd′ rb′ : List ℕ) (first r : Place) → length rd′ ≡ length rd → length rb′ ≡ length rb
-    → GoesOn b low (length (dwordsIn rd rb)) first → Onward b (length (dwordsIn rd′ rb′)) first r → GoesOn b low (length (dwordsIn rd rb)) r
-several-goes b low rd rb rd′ rb′ first r p q g o =
-    several-by b low (length (dwordsIn rd rb)) first r g (subst (λ (x : ℕ). Onward b x first r) (in-length rd′ rb′ rd rb p q) o)
+-- what the first of them leaves, and then the others: x are the records from the first on, y and z those that are left
+pub several : (b : List ℕ) (low : ℕ) (rd rb rd′ rb′ : List ℕ) (first r : Place) (x y z : Buffer) → length rd′ ≡ length rd → length rb′ ≡ length rb
+    → y ≡ x → GoesOn b low (length (dwordsIn rd rb)) first → (z ≡ y) × Onward b (length (dwordsIn rd′ rb′)) first r
+    → (z ≡ x) × GoesOn b low (length (dwordsIn rd rb)) r
+several b low rd rb rd′ rb′ first r x y z p q e g o =
+    (o .0 ∙ e, several-by b low (length (dwordsIn rd rb)) first r g (subst (λ (n : ℕ). Onward b n first r) (in-length rd′ rb′ rd rb p q) (o .1)))
 
 pub several-ready : (b : List ℕ) (k d : ℕ) (rd rb rd′ rb′ : List ℕ) (first : Place) → length rd′ ≡ length rd → length rb′ ≡ length rb
     → Ready b k d (length (dwordsIn rd rb)) first → Ready b k d (length (dwordsIn rd′ rb′)) first

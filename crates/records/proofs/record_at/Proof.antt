@@ -1,6 +1,5 @@
-use mathlib.Core.Path.{_∙_}
 use Rattle.records.proofs.Fills.{left-in}
-use Rattle.records.proofs.Places.{several-ready, several-goes}
+use Rattle.records.proofs.Places.{several, several-ready}
 use borrow.Author.Needs.{needs}
 use Rattle.records.proofs.record_at.Statement.{statement}
 use Rattle.records.proofs.record_at.Tie as tie
@@ -26,8 +25,7 @@ same-length-2 c = search needs
 returns : tie.Need-returns
 returns c =
     let f = c .before .before .before .before .before .before .before .before .before .before .before .record-as .ensures in
-    let a = c .before .before .before .before .and-again .ensures in
-    (a .0 ∙ f .0, several-goes _ _ _ _ _ _ _ _ (c .before .before .before .before .before .before .before .before .before .before .rd .given) (c .before .before .before .before .before .before .before .before .rb .given) (f .1) (a .1))
+    several _ _ _ _ _ _ _ _ _ _ _ (c .before .before .before .before .before .before .before .before .before .before .rd .given) (c .before .before .before .before .before .before .before .before .rb .given) (f .0) (f .1) (c .before .before .before .before .and-again .ensures)
 
 record-as-requires-2 : tie.Need-record-as-requires-2
 record-as-requires-2 c κs = search needs
@@ -44,8 +42,7 @@ same-length-4 c = search needs
 returns-2 : tie.Need-returns-2
 returns-2 c =
     let f = c .before .before .before .before .before .before .before .before .before .before .before .record-as2 .ensures in
-    let a = c .before .before .before .before .and-again2 .ensures in
-    (a .0 ∙ f .0, several-goes _ _ _ _ _ _ _ _ (c .before .before .before .before .before .before .before .before .before .before .rd3 .given) (c .before .before .before .before .before .before .before .before .rb3 .given) (f .1) (a .1))
+    several _ _ _ _ _ _ _ _ _ _ _ (c .before .before .before .before .before .before .before .before .before .before .rd3 .given) (c .before .before .before .before .before .before .before .before .rb3 .given) (f .0) (f .1) (c .before .before .before .before .and-again2 .ensures)
 
 record-as-requires-3 : tie.Need-record-as-requires-3
 record-as-requires-3 c κs = search needs
