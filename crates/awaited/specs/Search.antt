@@ -29,7 +29,7 @@ awaitedRecord d states c r = unfinishedRecord d states r && ltb (deltaTo d c r) 
 abbrev pub NoneIn : (ℕ → Bool) → ℕ → ℕ → Type 0
 NoneIn f a b = (r : ℕ) → a ≤ r → r < b → f r ≡ false
 
--- is record r within reach or, by half of that test, near? Whichever it is, what fails the half fails the whole (`half-unreached` of
+-- does record r pass the quick test or, where it is not the whole one, its half? What fails either fails the whole (`half-unreached` of
 -- proofs/Searched.antt).
 unfoldable pub testedAt : Bool → List ℕ → ℕ → List ℕ → ℕ → Bool
 testedAt whole d corner rows r = cond whole (reachedAt d corner rows r) (nearAt d corner r)

@@ -39,7 +39,7 @@ fn awaited(rd: &[u32], rb: &[u8], states: &[u8], c: Candidate, r: usize) -> bool
     delta_to(rd, rb, c, r) < 8
 }
 
-// Is record r within reach or, by half of that test, near?
+// Does record r pass the quick test or, where it is not the whole one, its half?
 fn tested(rd: &[u32], rb: &[u8], whole: bool, corner: u64, rows: &[u32], r: usize) -> bool
     requires { ⌜ RecordIn (lent rd rb) r × (length (now rows) ≡ 16) ⌝ }
     ensures { λ t. ⌜ t ≡ testedAt whole (lent (rd .entry) (rb .entry)) corner (now (rows .entry)) r ⌝ }
@@ -50,7 +50,7 @@ fn tested(rd: &[u32], rb: &[u8], whole: bool, corner: u64, rows: &[u32], r: usiz
     near(rd, rb, corner, r)
 }
 
-// Is one of the four records from r on?
+// Does one of the four records from r on pass that test?
 fn four_tested(rd: &[u32], rb: &[u8], whole: bool, corner: u64, rows: &[u32], r: usize) -> bool
     requires { ⌜ RecordsIn (lent rd rb) (r + 4) × (length (now rows) ≡ 16) ⌝ }
     ensures { λ t. ⌜ t ≡ oneOfFour (testedAt whole (lent (rd .entry) (rb .entry)) corner (now (rows .entry))) r ⌝ }
@@ -67,7 +67,7 @@ fn four_tested(rd: &[u32], rb: &[u8], whole: bool, corner: u64, rows: &[u32], r:
     tested(rd, rb, whole, corner, rows, r + 3)
 }
 
-// Passes over records that are not, four at a time: most are not, and the loop costs as much as the test.
+// Passes over records that fail it, four at a time: most do, and the loop costs as much as the test.
 fn leap(
     rd: &[u32],
     rb: &[u8],

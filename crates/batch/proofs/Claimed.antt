@@ -11,7 +11,6 @@ use borrow.Author.Tests.{lt-ltb, le-ltb, eq-eqb, ne-eqb, eqb-true, eqb-false}
 use Rattle.laws.proofs.Choices.{two-cond}
 use Rattle.chips.specs.declared.Chip.{Chip}
 use Rattle.chips.specs.declared.Target.{Target}
-use Rattle.chips.specs.declared.Named.the-variants.{Unknown, Known}
 use Rattle.chips.specs.Chips.{numberOf, targetOf, byNamed, Unnamed, ForChip}
 use Rattle.chips.proofs.Chips.{same-number, by-named, same-chip}
 use Rattle.words.specs.Dwords.{leAt, dwordsOf, putLe}

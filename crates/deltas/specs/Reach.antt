@@ -50,7 +50,7 @@ rowsOf mask d6 d7 = rowsTo mask d6 d7 8
 abbrev pub beyond : List Bits
 beyond = bits 63 36 ∷ bits 31 4 ∷ []
 
--- is it less than that in both?
+-- is a place less than 16 from the corner, in X and in Y?
 abbrev pub nearTo : ℕ → ℕ → Bool
 nearTo corner place = not (anySet beyond (less place corner))
 

@@ -8,10 +8,9 @@ use mathlib.Core.List.{List}
 use lib.Dec.{ltb, leb, eqb}
 use lib.ListN.{length}
 use Rattle.laws.specs.Find.{NoneBelow}
-use Rattle.objects.specs.declared.Candidate.{Candidate}
 use Rattle.objects.specs.declared.Spot.{Spot}
 use Rattle.objects.specs.Objects.{Object, objectAt}
-use Rattle.objects.specs.Recorded.{wordAt, Records, Numbered, objectsRecorded, Spotted, deltaTo}
+use Rattle.objects.specs.Recorded.{Records, Numbered, objectsRecorded, Spotted}
 use Rattle.awaited.specs.Search.{unfinishedAt, Crossed}
 use Rattle.runs.specs.declared.Verdict.{Verdict}
 use Rattle.runs.specs.declared.Cursors.{Cursors}

@@ -8,8 +8,8 @@ use chips::chip_named;
 mod order;
 
 // Number 0: the run was taken to its end, and place is its event count. 20 to 25: place is the position in the run, and object and delta
-// are those that the number names, else 0. 1 to 10 and 17 of the batch: as the batch check; 17 of the run: place is the run's whole
-// dwords.
+// are those that the number names, else 0. 18: place 0. 1 to 10 and 17 of the batch: as the batch check; 17 of the run: place is the run's
+// whole dwords.
 #[repr(C)]
 pub struct Answer {
     pub number: u64,
