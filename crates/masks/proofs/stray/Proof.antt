@@ -31,7 +31,7 @@ index-3-result c = search needs
 -- the table's rule: one computed test against the marks of documents 000 and 003
 returns : tie.Need-returns
 unfolding marks markedBits
-returns c = search (by-chips markedBits 9 8, needs)
+returns c = search (by-chips markedBits 9 8)
 
 pub stray-spec : {M : Type 1} → statement M
 stray-spec = tie.close (tie.spec chip-row-requires mul-result mul-result-2 mul-result-3 index-1-result index-2-result index-3-result returns)
