@@ -11,7 +11,7 @@ use borrow.Author.Tests.{lt-ltb, le-ltb, eq-eqb, ne-eqb, eqb-true, eqb-false}
 use Rattle.laws.proofs.Choices.{two-cond}
 use Rattle.chips.specs.declared.Chip.{Chip}
 use Rattle.chips.specs.declared.Target.{Target}
-use Rattle.chips.specs.Chips.{numberOf, targetOf, byNamed, Unnamed, ForChip}
+use Rattle.chips.specs.Chips.{numberOf, targetOf, byNamed, Unnamed, ForChip, ofNone, ofChip}
 use Rattle.chips.proofs.Chips.{same-number, by-named, same-chip}
 use Rattle.words.specs.Dwords.{leAt, dwordsOf, putLe}
 use Rattle.words.proofs.Dwords.{length-dwords}
@@ -31,7 +31,7 @@ use Rattle.records.specs.Records.{slot, written, recorded}
 use Rattle.records.proofs.Slots.{word-at, word-past, written-length, byte-word-at, byte-past, bytes-written-length}
 use Rattle.batch.specs.declared.Answer.{Answer}
 use Rattle.batch.specs.Answers.{refusedAnswer, acceptedAnswer, recordedIn, answerFor, recordsFor, bytesAnswerFor, bytesRecordsFor, answerOf, recordsOf, bytesAnswerOf, bytesRecordsOf}
-use Rattle.batch.specs.Claims.{DueFor, odd, long, faulty, full, success, Due, unknown, named, Numbers, Claims, BytesClaims, AllClaimed}
+use Rattle.batch.specs.Claims.{DueFor, odd, long, faulty, full, success, Due, Numbers, Claims, BytesClaims, AllClaimed}
 
 -- No two answers are due.
 module _ (t : Target) (b : List ℕ) (over room : ℕ) where
@@ -90,13 +90,13 @@ passed-as t b cs d laid = ap (λ (x : Reading). x .passed) (laid-reading t b cs 
 -- and none is due but to the chip named
 module _ (chip capacity : ℕ) (b : List ℕ) (over room : ℕ) where
   only-unknown : Unnamed chip → (other : Answer) → Due chip capacity b over room other → other ≡ refusedAnswer 18 0
-  only-unknown u other (unknown n) = refl
-  only-unknown u other (named c e d) = absurd (u c e)
+  only-unknown u other (ofNone n z) = z
+  only-unknown u other (ofChip c e d) = absurd (u c e)
 
   only-named : (c : Chip) → chip ≡ numberOf c → {a : Answer} → DueFor (targetOf c capacity) b over room a → (other : Answer)
       → Due chip capacity b over room other → other ≡ a
-  only-named c e x other (unknown n) = absurd (n c e)
-  only-named c e x other (named c′ e′ y) =
+  only-named c e x other (ofNone n z) = absurd (n c e)
+  only-named c e x other (ofChip c′ e′ y) =
       one-due (targetOf c capacity) b over room x other
       (subst (λ (k : Chip). DueFor (targetOf k capacity) b over room other) (same-number c′ c (sym e′ ∙ e)) y)
 
@@ -115,7 +115,7 @@ module _ (chip capacity : ℕ) (b r : List ℕ) where
     off : (m p : ℕ) → 0 < m → m ≤ 10 → DueFor t b 0 (length r) (refusedAnswer m p) → Claims chip capacity b r (refusedAnswer m p) r
     off m p h l due =
         record {
-          due = named c e due;
+          due = ofChip c e due;
           only = only-named chip capacity b 0 (length r) c e due;
           numbers = refused-numbers m p h l;
           refused = λ _. refl;
@@ -134,7 +134,7 @@ module _ (chip capacity : ℕ) (b r : List ℕ) where
         → Claims chip capacity b r (acceptedAnswer (length passed) d) (recorded set t b r)
     on d due n =
         record {
-          due = named c e due;
+          due = ofChip c e due;
           only = only-named chip capacity b 0 (length r) c e due;
           numbers = accepted-numbers (length passed) d;
           refused = λ h. absurd (omega arith);
@@ -150,7 +150,7 @@ module _ (chip capacity : ℕ) (b r : List ℕ) where
   unclaimed : Unnamed chip → Claims chip capacity b r (refusedAnswer 18 0) r
   unclaimed u =
       record {
-        due = unknown u;
+        due = ofNone u refl;
         only = only-unknown chip capacity b 0 (length r) u;
         numbers = unknown-numbers;
         refused = λ _. refl;
@@ -180,7 +180,7 @@ module _ (chip capacity : ℕ) (b r : List ℕ) where
     bytes-off : (m p : ℕ) → 0 < m → Numbers (refusedAnswer m p) → DueHere (refusedAnswer m p) → BytesClaims chip capacity b r (refusedAnswer m p) r
     bytes-off m p h numbers due =
         record {
-          due = named c e due;
+          due = ofChip c e due;
           only = only-named chip capacity (dwordsOf b) (length b % 4) (length r / 4) c e due;
           numbers = numbers;
           refused = λ _. refl;
@@ -199,7 +199,7 @@ module _ (chip capacity : ℕ) (b r : List ℕ) where
         → BytesClaims chip capacity b r (acceptedAnswer (length commands) d) (recorded putLe tb (dwordsOf b) r)
     bytes-on d due n =
         record {
-          due = named c e due;
+          due = ofChip c e due;
           only = only-named chip capacity (dwordsOf b) (length b % 4) (length r / 4) c e due;
           numbers = accepted-numbers (length commands) d;
           refused = λ h. absurd (omega arith);
@@ -223,7 +223,7 @@ module _ (chip capacity : ℕ) (b r : List ℕ) where
   bytes-unclaimed : Unnamed chip → BytesClaims chip capacity b r (refusedAnswer 18 0) r
   bytes-unclaimed u =
       record {
-        due = unknown u;
+        due = ofNone u refl;
         only = only-unknown chip capacity (dwordsOf b) (length b % 4) (length r / 4) u;
         numbers = unknown-numbers;
         refused = λ _. refl;

@@ -7,7 +7,7 @@ use Prim.Native.Nat.{ℕ, _+_, _*_, _/_, _%_, _^_, _<_, _≤_}
 use lib.ListN.{length, getD, take}
 use Rattle.chips.specs.declared.Chip.{Chip}
 use Rattle.chips.specs.declared.Target.{Target}
-use Rattle.chips.specs.Chips.{numberOf, targetOf, Unnamed, ForChip}
+use Rattle.chips.specs.Chips.{numberOf, targetOf, ForChip, ByChip}
 use Rattle.words.specs.Dwords.{leAt, dwordsOf}
 use Rattle.command.specs.Order.{Command}
 use Rattle.record.specs.Record.{recordOf}
@@ -35,12 +35,10 @@ pub data DueFor (target : Target) (b : List ℕ) (over room : ℕ) : Answer → 
   success : {cs : List Command} {d : ℕ} → over ≡ 0 → length b ≤ 16384 → Laid target b cs (ended d) → 16 * length cs ≤ room
       → DueFor target b over room (acceptedAnswer (length cs) d)
 
--- the same for any number as the chip
-pub data Due (chip capacity : ℕ) (b : List ℕ) (over room : ℕ) : Answer → Type 0 where
-  -- 18: "chip neither 6 nor 7, checked before all others"
-  unknown : Unnamed chip → Due chip capacity b over room (refusedAnswer 18 0)
-  named : {answer : Answer} (c : Chip) → chip ≡ numberOf c → DueFor (targetOf c capacity) b over room answer
-      → Due chip capacity b over room answer
+-- The same for any number as the chip. 18: "chip neither 6 nor 7, checked before all others".
+abbrev pub Due : ℕ → ℕ → List ℕ → ℕ → ℕ → Answer → Type 0
+Due chip capacity b over room answer =
+    ByChip chip (answer ≡ refusedAnswer 18 0) (λ c. DueFor (targetOf c capacity) b over room answer)
 
 -- what an answer's numbers tell apart: a refusal has one of the table's, or 18, and what the paper leaves free is 0
 pub record Numbers (answer : Answer) : Type 0 where

@@ -10,7 +10,7 @@ use Rattle.chips.specs.declared.Chip.{Chip}
 use Rattle.chips.specs.declared.Chip.the-variants.{Gen6, Gen7}
 use Rattle.chips.specs.declared.Named.{Named}
 use Rattle.chips.specs.declared.Named.the-variants.{Unknown, Known}
-use Rattle.chips.specs.Chips.{numberOf, namedBy, byNamed, onChip, Unnamed, ForChip}
+use Rattle.chips.specs.Chips.{numberOf, namedBy, byNamed, onChip, Unnamed, ForChip, ByChip, ofNone, ofChip}
 
 unnamed : (n : ℕ) → (n ≡ 6 → ⊥) → (n ≡ 7 → ⊥) → Unnamed n
 unnamed n x y Gen6 = x
@@ -54,6 +54,10 @@ on-named refused given n Gen7 e = ap (onChip refused given) e
 
 pub on-none : {A : Type 0} (refused : ℕ → ℕ → A) (given : Chip → A) (n : ℕ) → Unnamed n → onChip refused given n ≡ refused 18 0
 on-none refused given n u = ap (byNamed (refused 18 0) given) (sym (names-none n (u Gen6) (u Gen7)))
+
+-- LAW: every number names a chip or none
+pub by-either : (n : ℕ) (Q : Type 0) (P : Chip → Type 0) → (Unnamed n → Q) → ForChip n P → ByChip n Q P
+by-either n Q P none known = by-named (λ v. ByChip n Q P) n (λ u. ofNone u (none u)) (λ c e. ofChip c e (known c e))
 
 -- what an entry shows, by what its number names
 module _ {A : Type 0} (refused : ℕ → ℕ → A) (given : Chip → A) (n : ℕ) (v : Named) (e : v ≡ namedBy n) where

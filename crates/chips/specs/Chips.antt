@@ -39,3 +39,8 @@ Unnamed n = (c : Chip) → n ≡ numberOf c → ⊥
 -- Of the chip that a number names something is so: of none, where it names no chip.
 abbrev pub ForChip : ℕ → (Chip → Type 0) → Type 0
 ForChip n P = (c : Chip) → n ≡ numberOf c → P c
+
+-- A number names no chip, and the one is so; or it names a chip, and the other is so of that. There is no third.
+pub data ByChip (n : ℕ) (Q : Type 0) (P : Chip → Type 0) : Type 0 where
+  ofNone : Unnamed n → Q → ByChip n Q P
+  ofChip : (c : Chip) → n ≡ numberOf c → P c → ByChip n Q P

@@ -5,7 +5,7 @@ use mathlib.Core.Path.{_≡_}
 use mathlib.Core.List.{List}
 use Prim.Native.Nat.{ℕ}
 use Rattle.chips.specs.declared.Chip.{Chip}
-use Rattle.chips.specs.Chips.{targetOf, ForChip}
+use Rattle.chips.specs.Chips.{numberOf, targetOf, Unnamed, ForChip}
 use Rattle.words.specs.Dwords.{dwordsOf}
 use Rattle.reading.specs.Reading.{readingOf}
 use Rattle.reading.specs.Isolation.{Alike, BytesAlike}
@@ -46,11 +46,26 @@ pub record ListedSame (chip : Chip) (input input′ text : List ℕ) : Type 0 wh
   pub buffer : listedIn chip input text ≡ listedIn chip input′ text
 
 -- "Now take two batches that differ only in inline data of objects passed before the reading stopped", as the chip named reads them. Where
--- the number names no chip, any two batches are answered alike: nothing is asked of them. A listing has 2,048 rows.
+-- the number names no chip, any two batches are answered alike: nothing is asked of them.
+abbrev pub AlikeFor : ℕ → ℕ → List ℕ → List ℕ → Type 0
+AlikeFor chip capacity b b′ = ForChip chip (λ c. Alike (targetOf c capacity) b b′)
+
+-- the same over bytes
+abbrev pub BytesAlikeFor : ℕ → ℕ → List ℕ → List ℕ → Type 0
+BytesAlikeFor chip capacity b b′ = ForChip chip (λ c. BytesAlike (targetOf c capacity) b b′)
+
+-- the guards of these words: for a chip's number no more is asked than for that chip, and for any other number nothing
+pub record ChipGuards : Type 0 where
+  pub named : (c : Chip) (capacity : ℕ) (b b′ : List ℕ) → Alike (targetOf c capacity) b b′ → AlikeFor (numberOf c) capacity b b′
+  pub unnamed : (chip capacity : ℕ) (b b′ : List ℕ) → Unnamed chip → AlikeFor chip capacity b b′
+  pub namedBytes : (c : Chip) (capacity : ℕ) (b b′ : List ℕ) → BytesAlike (targetOf c capacity) b b′
+      → BytesAlikeFor (numberOf c) capacity b b′
+  pub unnamedBytes : (chip capacity : ℕ) (b b′ : List ℕ) → Unnamed chip → BytesAlikeFor chip capacity b b′
+
+-- a listing has 2,048 rows
 pub record Batches : Type 0 where
-  pub dwords : (chip capacity : ℕ) (b b′ run r states : List ℕ) → ForChip chip (λ c. Alike (targetOf c capacity) b b′)
-      → Same chip capacity b b′ run r states
-  pub bytes : (chip capacity : ℕ) (b b′ run r states : List ℕ) → ForChip chip (λ c. BytesAlike (targetOf c capacity) b b′)
+  pub dwords : (chip capacity : ℕ) (b b′ run r states : List ℕ) → AlikeFor chip capacity b b′ → Same chip capacity b b′ run r states
+  pub bytes : (chip capacity : ℕ) (b b′ run r states : List ℕ) → BytesAlikeFor chip capacity b b′
       → BytesSame chip capacity b b′ run r states
   pub listing : (chip : Chip) (input input′ text : List ℕ) → BytesAlike (targetOf chip 2048) input input′
       → ListedSame chip input input′ text
@@ -60,3 +75,4 @@ pub record Isolation : Type 0 where
   pub recordingWords : replays.Guards
   pub batches : Batches
   pub batchWords : checks.Guards
+  pub chipWords : ChipGuards

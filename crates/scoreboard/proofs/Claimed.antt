@@ -8,9 +8,10 @@ use lib.Dec.{eqb}
 use borrow.Author.Tests.{eqb-true, eqb-false}
 use lib.ListN.{length, getD, take, set}
 use Rattle.laws.proofs.Choices.{by-cond, by-test}
+use Rattle.chips.specs.declared.Chip.{Chip}
 use Rattle.chips.specs.declared.Target.{Target}
 use Rattle.chips.specs.Chips as chips
-use Rattle.chips.proofs.Chips.{on-none, on-named}
+use Rattle.chips.proofs.Chips.{on-none, on-named, by-either}
 use Rattle.words.specs.Dwords.{dwordsOf, putLe}
 use Rattle.command.specs.Order.{Command}
 use Rattle.records.specs.Records.{recorded}
@@ -204,23 +205,21 @@ module _ (chip capacity : ℕ) (batch run records states : List ℕ) where
   pub claimed : Claimed chip capacity batch run records states
   unfolding orderOf
   claimed =
-      record {
-        unknownChip = on-none (refusedResult records states) (λ c. orderFor (chips.targetOf c capacity) batch run records states) chip;
-        named = λ c n. subst (Claims (chips.targetOf c capacity) batch run records states (recorded set (chips.targetOf c capacity) batch records) (decisionOf (chips.targetOf c capacity) (length records) batch))
-            (sym (on-named (refusedResult records states) (λ c. orderFor (chips.targetOf c capacity) batch run records states) chip c n))
-            (claimed-for (chips.targetOf c capacity) batch run records states);
-      }
+      let given : Chip → Result (List ℕ) = λ c. orderFor (chips.targetOf c capacity) batch run records states in
+      by-either chip _ _ (on-none (refusedResult records states) given chip)
+      (λ c n. subst (Claims (chips.targetOf c capacity) batch run records states (recorded set (chips.targetOf c capacity) batch records) (decisionOf (chips.targetOf c capacity) (length records) batch))
+      (sym (on-named (refusedResult records states) given chip c n))
+      (claimed-for (chips.targetOf c capacity) batch run records states))
 
   -- LAW: the byte entry
   pub bytes-claimed : BytesClaimed chip capacity batch run records states
   unfolding bytesOrderOf
   bytes-claimed =
-      record {
-        unknownChip = on-none (refusedResult records states) (λ c. bytesOrderFor (chips.targetOf c capacity) batch run records states) chip;
-        named = λ c n. subst (Claims (chips.targetOf c capacity) (dwordsOf batch) (dwordsOf run) records states (recorded putLe (chips.targetOf c capacity) (dwordsOf batch) records) (bytesDecision (chips.targetOf c capacity) batch run records))
-            (sym (on-named (refusedResult records states) (λ c. bytesOrderFor (chips.targetOf c capacity) batch run records states) chip c n))
-            (bytes-claimed-for (chips.targetOf c capacity) batch run records states);
-      }
+      let given : Chip → Result (List ℕ) = λ c. bytesOrderFor (chips.targetOf c capacity) batch run records states in
+      by-either chip _ _ (on-none (refusedResult records states) given chip)
+      (λ c n. subst (Claims (chips.targetOf c capacity) (dwordsOf batch) (dwordsOf run) records states (recorded putLe (chips.targetOf c capacity) (dwordsOf batch) records) (bytesDecision (chips.targetOf c capacity) batch run records))
+      (sym (on-named (refusedResult records states) given chip c n))
+      (bytes-claimed-for (chips.targetOf c capacity) batch run records states))
 
 pub all-claimed : AllClaimed
 all-claimed chip capacity batch run records states = (claimed chip capacity batch run records states, bytes-claimed chip capacity batch run records states)

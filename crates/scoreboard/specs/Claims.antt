@@ -7,7 +7,7 @@ use mathlib.Core.List.{List}
 use Prim.Native.Nat.{ℕ, _/_, _<_, _≤_}
 use lib.ListN.{length, getD, take, set}
 use Rattle.chips.specs.declared.Target.{Target}
-use Rattle.chips.specs.Chips.{targetOf, Unnamed, ForChip}
+use Rattle.chips.specs.Chips.{targetOf, ByChip}
 use Rattle.words.specs.Dwords.{dwordsOf, putLe}
 use Rattle.reading.specs.declared.Scanned.{Scanned}
 use Rattle.reading.specs.declared.Scanned.the-variants as variants
@@ -115,20 +115,23 @@ abbrev pub bytesDecision : Target → List ℕ → List ℕ → List ℕ → Sca
 bytesDecision target batch run records =
     wholeDwords variants.Stopped batch (wholeDwords variants.Stopped run (decisionOf target (length records / 4) (dwordsOf batch)))
 
--- the dword entry, for any number as the chip
-pub record Claimed (chip capacity : ℕ) (batch run records states : List ℕ) : Type 0 where
-  -- 18: "chip neither 6 nor 7, checked before all others"; "changes nothing lent and has place 0"
-  pub unknownChip : Unnamed chip → orderOf chip capacity batch run records states ≡ refusedResult records states 18 0
-  -- else, for the chip named, the claims above, in which 18 is no number
-  pub named : ForChip chip (λ c. Claims (targetOf c capacity) batch run records states (recorded set (targetOf c capacity) batch records)
-      (decisionOf (targetOf c capacity) (length records) batch) (orderOf chip capacity batch run records states))
+-- The dword entry, for any number as the chip. 18: "chip neither 6 nor 7, checked before all others"; "changes nothing lent and has place
+-- 0". Else, for the chip named, the claims above, in which 18 is no number.
+abbrev pub Claimed : ℕ → ℕ → List ℕ → List ℕ → List ℕ → List ℕ → Type 0
+Claimed chip capacity batch run records states =
+    let given = orderOf chip capacity batch run records states in
+    ByChip chip (given ≡ refusedResult records states 18 0)
+    (λ c. let t = targetOf c capacity in
+    Claims t batch run records states (recorded set t batch records) (decisionOf t (length records) batch) given)
 
 -- the byte entry, of the dwords of the batch and of the run
-pub record BytesClaimed (chip capacity : ℕ) (batch run records states : List ℕ) : Type 0 where
-  pub unknownChip : Unnamed chip → bytesOrderOf chip capacity batch run records states ≡ refusedResult records states 18 0
-  pub named : ForChip chip (λ c. Claims (targetOf c capacity) (dwordsOf batch) (dwordsOf run) records states
-      (recorded putLe (targetOf c capacity) (dwordsOf batch) records)
-      (bytesDecision (targetOf c capacity) batch run records) (bytesOrderOf chip capacity batch run records states))
+abbrev pub BytesClaimed : ℕ → ℕ → List ℕ → List ℕ → List ℕ → List ℕ → Type 0
+BytesClaimed chip capacity batch run records states =
+    let given = bytesOrderOf chip capacity batch run records states in
+    ByChip chip (given ≡ refusedResult records states 18 0)
+    (λ c. let t = targetOf c capacity in
+    Claims t (dwordsOf batch) (dwordsOf run) records states (recorded putLe t (dwordsOf batch) records)
+    (bytesDecision t batch run records) given)
 
 -- every order check, over dwords and over bytes, whatever is lent
 abbrev pub AllClaimed : Type 0
