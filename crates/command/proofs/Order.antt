@@ -4,10 +4,12 @@ use mathlib.Core.Bool.{Bool, true, false, cond}
 use Prim.Native.Nat.{ℕ, _+_}
 use native.Mathlib.Numerals.{add-one}
 use mathlib.Core.List.{List, _∷_}
+use lib.ListN.{getD}
 use lib.Dec.{eqb}
+use Rattle.laws.specs.BitRanges.{Bits, field}
 use Rattle.chips.specs.declared.Target.{Target}
 use Rattle.command.specs.declared.State.{State}
-use Rattle.command.specs.Order.{Command, among, since, flag, isSet, standsSince, countLoaded, curbeInForce, vfeInForce, objectCount, stateOf, stateAfter}
+use Rattle.command.specs.Order.{Command, among, since, flag, isSet, standsSince, countLoaded, stateInForce, vfeInForce, objectCount, stateOf, stateAfter}
 
 flag-since : (kinds last : List ℕ) (k : ℕ) (t : Bool) → flag (since false true kinds last k t) ≡ since 0 1 kinds last k (flag t)
 flag-since kinds last k t = go (among k last) (among k kinds)
@@ -17,9 +19,18 @@ flag-since kinds last k t = go (among k last) (among k kinds)
     go false true = refl
     go false false = refl
 
+-- of one of two lists of dwords, by a test
+dword-of : (t : Bool) (h h′ : List ℕ) (i : ℕ) → getD (cond t h h′) i 0 ≡ cond t (getD h i 0) (getD h′ i 0)
+dword-of true h h′ i = refl
+dword-of false h h′ i = refl
+
+field-of : (r : Bits) (t : Bool) (d d′ : ℕ) → field r (cond t d d′) ≡ cond t (field r d) (field r d′)
+field-of r true d d′ = refl
+field-of r false d d′ = refl
+
 pub state-after : (target : Target) (c : Command) (cs : List Command) → stateOf target (c ∷ cs) ≡ stateAfter (c .kind) (c .head) (stateOf target cs)
-unfolding stateOf stateAfter standsSince countLoaded curbeInForce vfeInForce objectCount
-state-after target c cs = simp (add-one, flag-since)
+unfolding stateOf stateAfter standsSince countLoaded stateInForce vfeInForce objectCount
+state-after target c cs = simp (add-one, flag-since, dword-of, field-of)
 
 -- a flag tells what it was made of
 pub set-flag : (t : Bool) → isSet (flag t) ≡ t

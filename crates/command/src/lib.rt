@@ -10,13 +10,19 @@ pub struct State {
     pub chip: Chip,
     pub capacity: u32,
     pub earlier_vfe: u32,
-    // the VFE in force: the number of its record, and its CURBE size in rows
+    // the VFE in force: the number of its record, its CURBE size in rows, and its dwords 1 to 4, which have all of it but the scoreboard
     pub vfe_in_force: u32,
     pub curbe_in_force: u32,
+    pub vfe_dword1: u32,
+    pub vfe_dword2: u32,
+    pub vfe_dword3: u32,
+    pub vfe_dword4: u32,
     // descriptors last loaded
     pub count_loaded: u32,
     // a command of kind 3, 4, 5, 7 or 8 stands since the last MI_FLUSH
     pub media_since_flush: u32,
+    // one stands since the last MI_FLUSH or MEDIA_STATE_FLUSH
+    pub media_since_either: u32,
     // an OBJECT stands since the last MI_FLUSH or MEDIA_STATE_FLUSH
     pub object_since_flush: u32,
     pub commands: u32,

@@ -17,8 +17,13 @@ pub fn start(target: Target) -> State
         earlier_vfe: 0,
         vfe_in_force: 0,
         curbe_in_force: 0,
+        vfe_dword1: 0,
+        vfe_dword2: 0,
+        vfe_dword3: 0,
+        vfe_dword4: 0,
         count_loaded: 0,
         media_since_flush: 0,
+        media_since_either: 0,
         object_since_flush: 0,
         commands: 0,
         objects: 0,
@@ -35,7 +40,12 @@ fn after_vfe(h: [u32; 8], st: State) -> State
     next.earlier_vfe = 1;
     next.vfe_in_force = st.commands;
     next.curbe_in_force = h[4] & 0xffff;
+    next.vfe_dword1 = h[1];
+    next.vfe_dword2 = h[2];
+    next.vfe_dword3 = h[3];
+    next.vfe_dword4 = h[4];
     next.media_since_flush = 1;
+    next.media_since_either = 1;
     next
 }
 
@@ -49,31 +59,37 @@ pub fn after(k: u32, h: [u32; 8], st: State) -> State
     match k {
         7 => {
             next.media_since_flush = 1;
+            next.media_since_either = 1;
             next.object_since_flush = 1;
             next.objects = st.objects + 1;
             next
         }
         1 => {
             next.media_since_flush = 0;
+            next.media_since_either = 0;
             next.object_since_flush = 0;
             next
         }
         3 => after_vfe(h, st),
         4 => {
             next.media_since_flush = 1;
+            next.media_since_either = 1;
             next
         }
         5 => {
             next.count_loaded = (h[2] & 0x1_ffff) / 32;
             next.media_since_flush = 1;
+            next.media_since_either = 1;
             next
         }
         6 => {
+            next.media_since_either = 0;
             next.object_since_flush = 0;
             next
         }
         8 => {
             next.media_since_flush = 1;
+            next.media_since_either = 1;
             next
         }
         _ => next,

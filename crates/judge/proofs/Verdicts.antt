@@ -7,7 +7,7 @@ use mathlib.Core.Bool.{Bool, true, false, not, _&&_}
 use mathlib.Core.List.{List, [], _∷_}
 use lib.Bits.{bitAnd, and-le-r}
 use lib.Dec.{ltb, leb, eqb, lit<}
-use borrow.Author.Tests.{ne-eqb}
+use borrow.Author.Tests.{eq-eqb, ne-eqb}
 use Rattle.laws.specs.Rows.{Row, row, firstRow}
 use Rattle.laws.specs.BitRanges.{anySet}
 use Rattle.chips.specs.declared.Chip.{Chip}
@@ -18,7 +18,7 @@ use Rattle.judge.specs.declared.Verdict.{Verdict}
 use Rattle.judge.specs.declared.Verdict.the-variants.{Fault, Passed}
 use Rattle.command.specs.Order.{isSet}
 use Rattle.command.specs.Fields.{urbEntries, entrySize, curbeSize, loadLength, loadAddress, descriptorIndex}
-use Rattle.judge.specs.Refusals.{mustBeZero, ownRows, ownVerdict}
+use Rattle.judge.specs.Refusals.{mustBeZero, withoutFlush, ownRows, ownVerdict}
 
 -- each by the tables of both chips
 module _ (h : List ℕ) (st : State) where
@@ -31,7 +31,7 @@ module _ (h : List ℕ) (st : State) where
       ∷ mustBeZero c 3 h 2
       ∷ mustBeZero c 3 h 3
       ∷ mustBeZero c 3 h 5
-      ∷ row (Fault 8 0) (isSet (st .«media_since_flush»))
+      ∷ row (Fault 8 0) (withoutFlush h st)
       ∷ row (Fault 9 0) (ltb (st .capacity) (urbEntries h * entrySize h + curbeSize h))
       ∷ []
 
@@ -127,6 +127,10 @@ module _ (h : List ℕ) (st : State) where
   pub object-can : ownVerdict 7 h st ≡ firstRow Passed (objectRows (st .chip))
   unfolding ownVerdict
   object-can = object-on (st .chip)
+
+-- where a VFE stands earlier and dwords 1 to 3 are its own, dword 4 decides
+pub by-fourth : {vfe a b c x y z : ℕ} {t : Bool} → (vfe ≡ 0 → ⊥) → a ≡ x → b ≡ y → c ≡ z → t ≡ isSet vfe && eqb a x && eqb b y && eqb c z && t
+by-fourth v e1 e2 e3 = simp (ne-eqb _ _ v, eq-eqb _ _ e1, eq-eqb _ _ e2, eq-eqb _ _ e3)
 
 and-false : (t : Bool) → t && false ≡ false
 and-false true = refl

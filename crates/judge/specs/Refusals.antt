@@ -35,9 +35,30 @@ headerRows k d left =
 abbrev pub mustBeZero : Chip → ℕ → List ℕ → ℕ → Row Verdict
 mustBeZero c k h i = row (Fault 6 i) (anySet (markedBits c k i) (dword h i))
 
--- Rows 6 to 9 read the own dwords h, by the chip's masks, and what the commands before have set.
-abbrev pub ownRows : Chip → ℕ → List ℕ → State → List (Row Verdict)
-ownRows c k h st =
+-- Document 02, Two: "only scoreboard enable, type, mask or deltas differ from the VFE state in force". These stand in dwords 5 to 7 of a
+-- VFE; "A bit that differs in any other field brings the old rule back", so dwords 1 to 4 are those of the VFE in force, to the last bit.
+abbrev pub scoreboardOnly : List ℕ → State → Bool
+scoreboardOnly h st =
+    isSet (st .«earlier_vfe»)
+    && eqb (dword h 1) (st .«vfe_dword1»)
+    && eqb (dword h 2) (st .«vfe_dword2»)
+    && eqb (dword h 3) (st .«vfe_dword3»)
+    && eqb (dword h 4) (st .«vfe_dword4»)
+
+-- Document 01: "A VFE needs that no command of kind 3, 4, 5 or 7 stands since the last MI_FLUSH or the start"; kind 8 too, "counting with
+-- it before a VFE (H)". Does one stand?
+abbrev pub withoutFullFlush : State → Bool
+withoutFullFlush st = isSet (st .«media_since_flush»)
+
+-- Does a VFE with own dwords h stand without the flush that it needs? Document 02, Two: "a media state flush is enough" where only the
+-- scoreboard differs; "On either chip such a VFE now passes 8 if no command of kind 3, 4, 5, 7 or 8 stands since the last kind 1 or kind 6".
+abbrev pub withoutFlush : List ℕ → State → Bool
+withoutFlush h st = withoutFullFlush st && not (not (isSet (st .«media_since_either»)) && scoreboardOnly h st)
+
+-- Rows 6 to 9 read the own dwords h, by the chip's masks, and what the commands before have set. Whether a VFE stands without its flush is
+-- an argument, as document 02 changed that and nothing else.
+abbrev pub ownRowsBy : Bool → Chip → ℕ → List ℕ → State → List (Row Verdict)
+ownRowsBy unflushed c k h st =
     mustBeZero c k h 1
     ∷ mustBeZero c k h 2
     ∷ mustBeZero c k h 3
@@ -53,9 +74,8 @@ ownRows c k h st =
     ∷ row (Fault 7 3) (isLoad k && not (eqb (loadAddress h % 32) 0))
     -- 8: "kinds 4, 5, 7 need an earlier VFE"; kind 8 "is ordered as kind 4 is"
     ∷ row (Fault 8 0) ((isLoad k || eqb k 7 || eqb k 8) && not (isSet (st .«earlier_vfe»)))
-    -- 8: "A VFE needs that no command of kind 3, 4, 5 or 7 stands since the last MI_FLUSH or the start"; kind 8 too, "counting with it
-    -- before a VFE (H)"
-    ∷ row (Fault 8 0) (eqb k 3 && isSet (st .«media_since_flush»))
+    -- 8: "A VFE needs that no command of kind 3, 4, 5 or 7 stands since ..": above
+    ∷ row (Fault 8 0) (eqb k 3 && unflushed)
     -- 8: "A descriptor load needs that no OBJECT stands since the last kind 1 or 6"
     ∷ row (Fault 8 0) (eqb k 5 && isSet (st .«object_since_flush»))
     -- 8: "An OBJECT's index is below the count last loaded"
@@ -65,6 +85,9 @@ ownRows c k h st =
     -- 9: "CURBE load: length exceeds 32 x CURBE size in force"
     ∷ row (Fault 9 0) (eqb k 4 && ltb (32 * st .«curbe_in_force») (loadLength h))
     ∷ []
+
+abbrev pub ownRows : Chip → ℕ → List ℕ → State → List (Row Verdict)
+ownRows c k h st = ownRowsBy (withoutFlush h st) c k h st
 
 -- rows 3 to 9; the first row that holds decides
 unfoldable pub judgeOf : ℕ → ℕ → List ℕ → State → Verdict

@@ -1,7 +1,7 @@
 // Refusals 3 to 9 of one command: rows 3 to 5 by its first dword, rows 6 to 9 by its kind.
 ghost use mathlib.Core.Path.{_≡_};
 ghost use Rattle.command.specs.Kinds.{lengthField, lengthAllowed};
-ghost use Rattle.judge.specs.Refusals.{headerVerdict, ownVerdict, isPassed, Vouches};
+ghost use Rattle.judge.specs.Refusals.{scoreboardOnly, withoutFlush, headerVerdict, ownVerdict, isPassed, Vouches};
 use command::State;
 use command::head::total;
 use masks::marked;
@@ -48,6 +48,39 @@ pub fn header_verdict(k: u32, d: u32, left: usize) -> Verdict
     Verdict::Passed
 }
 
+// Does a VFE differ from the one in force in its scoreboard alone?
+fn scoreboard_only(h: [u32; 8], st: State) -> bool
+    ensures { λ r. ⌜ r ≡ scoreboardOnly h st ⌝ }
+{
+    if st.earlier_vfe == 0 {
+        return false;
+    }
+    if h[1] != st.vfe_dword1 {
+        return false;
+    }
+    if h[2] != st.vfe_dword2 {
+        return false;
+    }
+    if h[3] != st.vfe_dword3 {
+        return false;
+    }
+    h[4] == st.vfe_dword4
+}
+
+// Does a VFE stand without the flush that it needs? Where nothing stands since the last MI_FLUSH it needs none; else a state flush is enough
+// for a change of the scoreboard alone.
+fn without_flush(h: [u32; 8], st: State) -> bool
+    ensures { λ r. ⌜ r ≡ withoutFlush h st ⌝ }
+{
+    if st.media_since_flush == 0 {
+        return false;
+    }
+    if st.media_since_either != 0 {
+        return true;
+    }
+    !scoreboard_only(h, st)
+}
+
 fn vfe(h: [u32; 8], st: State) -> Verdict
     ensures { λ r. ⌜ r ≡ ownVerdict 3 h st ⌝ }
 {
@@ -64,7 +97,7 @@ fn vfe(h: [u32; 8], st: State) -> Verdict
     if marked(chip, 3, 5, h[5]) {
         return Verdict::Fault { number: 6, skip: 5 };
     }
-    if st.media_since_flush != 0 {
+    if without_flush(h, st) {
         return Verdict::Fault { number: 8, skip: 0 };
     }
     if st.capacity < ((h[2] >> 8) & 0xff) * ((h[4] >> 16) & 0xffff) + (h[4] & 0xffff) {

@@ -6,7 +6,7 @@ use Rattle.laws.specs.Filled.{filled}
 use Rattle.command.specs.Kinds.{kindOf, lengthAllowed, totalOf, ownDwords}
 use Rattle.command.specs.Kinds as commandKinds
 use Rattle.masks.specs.MustBeZero.{marks, markedBits}
-use Rattle.command.specs.Order.{standsSince, countLoaded, curbeInForce, vfeInForce, stateOf, stateAfter}
+use Rattle.command.specs.Order.{standsSince, countLoaded, stateInForce, vfeInForce, stateOf, stateAfter}
 use Rattle.judge.specs.Refusals.{judgeOf}
 use Rattle.reading.specs.Reading.{read, readingOf}
 use Rattle.reading.specs.Decision.{decided}
@@ -28,5 +28,5 @@ use Rattle.proved_examples.specs.Cases.{Each, table}
 
 -- each case: one number, one answer, an answer and its states, or an answer with outcomes, counts and registers
 pub all-hold : Each table
-unfolding firstFrom findFirst field anySet filled kindOf lengthAllowed totalOf ownDwords commandKinds.headOf marks markedBits standsSince countLoaded curbeInForce vfeInForce stateOf stateAfter judgeOf read readingOf decided namedBy answerFor answerOf deltaOf deltaDword deltaX deltaY usesScoreboard typeOf setInBoth inPlayOf reaches meetsAt objectWith objectsOf waitsFor lowestWaited lowestDelta lowestWaiting verdictOf after runFrom begun orderIn orderFor orderOf eventHead.headOf overMembers countedAck endMalformed forwardMalformed openMalformed ackMalformed malformed decidedOf decisionOf outcomeOf groupsOf setupOf strayGroupOf refusalOf gatewaysAfter bytesAfter waitsAfter notified countsAfter forwarded withAck stepOf runOf bitsWhere barriersOf runWhole replayOf
+unfolding firstFrom findFirst field anySet filled kindOf lengthAllowed totalOf ownDwords commandKinds.headOf marks markedBits standsSince countLoaded stateInForce vfeInForce stateOf stateAfter judgeOf read readingOf decided namedBy answerFor answerOf deltaOf deltaDword deltaX deltaY usesScoreboard typeOf setInBoth inPlayOf reaches meetsAt objectWith objectsOf waitsFor lowestWaited lowestDelta lowestWaiting verdictOf after runFrom begun orderIn orderFor orderOf eventHead.headOf overMembers countedAck endMalformed forwardMalformed openMalformed ackMalformed malformed decidedOf decisionOf outcomeOf groupsOf setupOf strayGroupOf refusalOf gatewaysAfter bytesAfter waitsAfter notified countsAfter forwarded withAck stepOf runOf bitsWhere barriersOf runWhole replayOf
 all-hold = (refl, (refl, (refl, (refl, (refl, (refl, ((refl, refl), ((refl, refl), ((refl, refl, refl, refl), ((refl, refl, refl, refl), ((refl, refl, refl, refl), ((refl, refl, refl, refl), ((refl, refl, refl, refl), ((refl, refl, refl, refl), ((refl, refl, refl, refl), ((refl, refl, refl, refl), ((refl, refl, refl, refl), ((refl, refl, refl, refl), tt))))))))))))))))))

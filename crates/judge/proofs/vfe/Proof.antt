@@ -43,8 +43,11 @@ marked-requires-4 c κs = search needs
 returns-4 : tie.Need-returns-4
 returns-4 c = rw vfe-can (simp (coded, ← c .before .before .before .before .before .before .before .marked .ensures, c .before .before .before .before .before .before .if1 .left, ← c .before .before .before .before .before .marked2 .ensures, c .before .before .before .before .if2 .left, ← c .before .before .before .marked3 .ensures, c .before .before .if3 .left, ← c .before .marked4 .ensures, c .if4 .taken))
 
+without-flush-requires : tie.Need-without-flush-requires
+without-flush-requires c κs = search needs
+
 returns-5 : tie.Need-returns-5
-returns-5 c = rw vfe-can (simp (coded, ← c .before .before .before .before .before .before .before .before .before .marked .ensures, c .before .before .before .before .before .before .before .before .if1 .left, ← c .before .before .before .before .before .before .before .marked2 .ensures, c .before .before .before .before .before .before .if2 .left, ← c .before .before .before .before .before .marked3 .ensures, c .before .before .before .before .if3 .left, ← c .before .before .before .marked4 .ensures, c .before .before .if4 .left, ne-eqb _ _ (c .if5 .taken)))
+returns-5 c = rw vfe-can (simp (coded, ← c .before .before .before .before .before .before .before .before .before .marked .ensures, c .before .before .before .before .before .before .before .before .if1 .left, ← c .before .before .before .before .before .before .before .marked2 .ensures, c .before .before .before .before .before .before .if2 .left, ← c .before .before .before .before .before .marked3 .ensures, c .before .before .before .before .if3 .left, ← c .before .before .before .marked4 .ensures, c .before .before .if4 .left, ← c .before .without-flush .ensures, c .if5 .taken))
 
 array-read-if6 : tie.Need-array-read-if6
 array-read-if6 c = search needs
@@ -62,10 +65,10 @@ add-if6 : tie.Need-add-if6
 add-if6 c = record { fits = rows-fit (getD (c .before .before .before .before .before .before .before .before .before .before .args .t1) 2 0 / 256) (getD (c .before .before .before .before .before .before .before .before .before .before .args .t1) 4 0 / 65536) (getD (c .before .before .before .before .before .before .before .before .before .before .args .t1) 4 0) }
 
 returns-6 : tie.Need-returns-6
-returns-6 c = rw vfe-can (simp (coded, ← c .before .before .before .before .before .before .before .before .before .before .before .marked .ensures, c .before .before .before .before .before .before .before .before .before .before .if1 .left, ← c .before .before .before .before .before .before .before .before .before .marked2 .ensures, c .before .before .before .before .before .before .before .before .if2 .left, ← c .before .before .before .before .before .before .before .marked3 .ensures, c .before .before .before .before .before .before .if3 .left, ← c .before .before .before .before .before .marked4 .ensures, c .before .before .before .before .if4 .left, eq-eqb _ _ (c .before .before .if5 .left), lt-ltb _ _ (c .if6 .taken)))
+returns-6 c = rw vfe-can (simp (coded, ← c .before .before .before .before .before .before .before .before .before .before .before .marked .ensures, c .before .before .before .before .before .before .before .before .before .before .if1 .left, ← c .before .before .before .before .before .before .before .before .before .marked2 .ensures, c .before .before .before .before .before .before .before .before .if2 .left, ← c .before .before .before .before .before .before .before .marked3 .ensures, c .before .before .before .before .before .before .if3 .left, ← c .before .before .before .before .before .marked4 .ensures, c .before .before .before .before .if4 .left, ← c .before .before .before .without-flush .ensures, c .before .before .if5 .left, lt-ltb _ _ (c .if6 .taken)))
 
 returns-7 : tie.Need-returns-7
-returns-7 c = rw vfe-can (simp (coded, ← c .before .before .before .before .before .before .before .before .before .before .before .marked .ensures, c .before .before .before .before .before .before .before .before .before .before .if1 .left, ← c .before .before .before .before .before .before .before .before .before .marked2 .ensures, c .before .before .before .before .before .before .before .before .if2 .left, ← c .before .before .before .before .before .before .before .marked3 .ensures, c .before .before .before .before .before .before .if3 .left, ← c .before .before .before .before .before .marked4 .ensures, c .before .before .before .before .if4 .left, eq-eqb _ _ (c .before .before .if5 .left), le-ltb _ _ (c .if6 .left)))
+returns-7 c = rw vfe-can (simp (coded, ← c .before .before .before .before .before .before .before .before .before .before .before .marked .ensures, c .before .before .before .before .before .before .before .before .before .before .if1 .left, ← c .before .before .before .before .before .before .before .before .before .marked2 .ensures, c .before .before .before .before .before .before .before .before .if2 .left, ← c .before .before .before .before .before .before .before .marked3 .ensures, c .before .before .before .before .before .before .if3 .left, ← c .before .before .before .before .before .marked4 .ensures, c .before .before .before .before .if4 .left, ← c .before .before .before .without-flush .ensures, c .before .before .if5 .left, le-ltb _ _ (c .if6 .left)))
 
 pub vfe-spec : {M : Type 1} → statement M
 vfe-spec =
@@ -83,6 +86,7 @@ vfe-spec =
     array-read-marked-4
     marked-requires-4
     returns-4
+    without-flush-requires
     returns-5
     array-read-if6
     array-read-if6-2

@@ -48,7 +48,10 @@ words-requires : tie.Need-words-requires Inv-loop μ-loop
 words-requires c κs = search needs
 
 put-requires : tie.Need-put-requires Inv-loop μ-loop
-put-requires c κs = let q = c .before .before .before .before .before .before .before .loop .inv in (room-there _ _ _ _ _ _ _ (q .1) (q .2) (q .0), search needs)
+put-requires c κs =
+    let q = c .before .before .before .before .before .before .before .loop .inv in
+    let z = left-small _ _ _ _ (q .0) in
+    let x = q .0 .commands in (room-there _ _ _ _ _ _ _ (q .1) (q .2) (q .0), omega arith)
 
 after-requires : tie.Need-after-requires Inv-loop μ-loop
 after-requires c κs =

@@ -10,9 +10,21 @@ add-next c = search needs
 array-read-next : tie.Need-array-read-next
 array-read-next c = search needs
 
+array-read-next-2 : tie.Need-array-read-next-2
+array-read-next-2 c = search needs
+
+array-read-next-3 : tie.Need-array-read-next-3
+array-read-next-3 c = search needs
+
+array-read-next-4 : tie.Need-array-read-next-4
+array-read-next-4 c = search needs
+
+array-read-next-5 : tie.Need-array-read-next-5
+array-read-next-5 c = search needs
+
 returns : tie.Need-returns
 unfolding stateAfter
 returns c = simp coded
 
 pub after-vfe-spec : {M : Type 1} → statement M
-after-vfe-spec = tie.close (tie.spec add-next array-read-next returns)
+after-vfe-spec = tie.close (tie.spec add-next array-read-next array-read-next-2 array-read-next-3 array-read-next-4 array-read-next-5 returns)
