@@ -132,7 +132,7 @@ module _ (h : List ℕ) (st : State) where
 pub by-fourth : {vfe a b c x y z : ℕ} {t : Bool} → (vfe ≡ 0 → ⊥) → a ≡ x → b ≡ y → c ≡ z → t ≡ isSet vfe && eqb a x && eqb b y && eqb c z && t
 by-fourth v e1 e2 e3 = simp (ne-eqb _ _ v, eq-eqb _ _ e1, eq-eqb _ _ e2, eq-eqb _ _ e3)
 
-and-false : (t : Bool) → t && false ≡ false
+pub and-false : (t : Bool) → t && false ≡ false
 and-false true = refl
 and-false false = refl
 

@@ -93,6 +93,10 @@ ownRows c k h st = ownRowsBy (withoutFlush h st) c k h st
 unfoldable pub judgeOf : ℕ → ℕ → List ℕ → State → Verdict
 judgeOf k left h st = firstRow Passed (headerRows k (dword h 0) left ++ ownRows (st .chip) k h st)
 
+-- the same by document 01's rule of a VFE alone, before document 02's Two
+unfoldable pub judgeBefore : ℕ → ℕ → List ℕ → State → Verdict
+judgeBefore k left h st = firstRow Passed (headerRows k (dword h 0) left ++ ownRowsBy (withoutFullFlush st) (st .chip) k h st)
+
 -- its halves, as the code asks them
 unfoldable pub headerVerdict : ℕ → ℕ → ℕ → Verdict
 headerVerdict k d left = firstRow Passed (headerRows k d left)

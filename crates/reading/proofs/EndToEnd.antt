@@ -19,14 +19,14 @@ use Rattle.command.specs.Order.{Command, stateOf, stateAfter}
 use Rattle.judge.specs.Refusals.{headerVerdict, judgeOf}
 use Rattle.command.proofs.Heads.{none-allowed, kind-eight}
 use Rattle.command.proofs.Order.{state-after}
-use Rattle.judge.proofs.Judged.{total-pos, passed-header, passed-length}
+use Rattle.judge.proofs.Judged.{total-pos, passed-header, passed-length, passed-fits}
 use Rattle.reading.specs.Reading.{Stop, ended, stopped, Reading, reading, andThen, commandAt, read, readingOf}
 use Rattle.reading.specs.declared.Turn.the-variants.{Last, Next}
 use Rattle.reading.specs.Turns.{walk, turned, turnOf}
 use Rattle.reading.specs.Vfes.{commandNumber}
 use Rattle.reading.specs.EndToEnd.{commandIn, verdictIn, Stands, EndToEnd, usedUp, faulty, last, next}
 use Rattle.reading.proofs.Verdicts.{by-verdict}
-use Rattle.reading.proofs.Walk.{read-walk, then, turn-at, walk-end, passes-in}
+use Rattle.reading.proofs.Walk.{read-walk, then, turn-at, walk-end}
 
 -- past the table's kinds no length field is allowed
 known-kind : (k d left : ℕ) → headerVerdict k d left ≡ Passed → k < 9
@@ -35,6 +35,25 @@ known-kind k d left e =
     (λ t. let l = ltb-false k 9 t in
     absurd (not-both (lengthAllowed k (lengthField d)) (passed-length k d left e)
     (sym (none-allowed k (λ q. omega arith) (λ q. omega arith) (λ q. omega arith) (λ q. omega arith) (λ q. omega arith) (λ q. omega arith) (lengthField d) (omega arith)))))
+
+-- the command at a place, where its verdict lets it pass, stands there
+pub stands-at : (target : Target) (b : List ℕ) (cs : List Command) (at : ℕ) → at < length b → verdictIn target b cs at ≡ Passed
+    → Stands target b cs at (commandIn target b cs at)
+unfolding headOf stateOf
+stands-at target b cs at p v =
+    let l = drop at b in
+    let d = getD l 0 0 in
+    let k = kindOf (target .chip) d in
+    let hv = passed-header k (length l) (headOf k l) (stateOf target cs) v in
+    let t = passed-fits k d (length l) hv in
+    let n = length-drop at b in
+    record {
+      is = refl;
+      faultless = v;
+      whole = omega arith;
+      known = known-kind k d (length l) hv;
+      gatewayState = kind-eight (target .chip) d;
+    }
 
 -- d is the first dword at a place, ds the dwords after it
 module _ (target : Target) (b : List ℕ) (cs : List Command) (at d : ℕ) (ds : List ℕ) (e : drop at b ≡ d ∷ ds) where
@@ -53,22 +72,11 @@ module _ (target : Target) (b : List ℕ) (cs : List Command) (at d : ℕ) (ds :
   verdict-is : verdictIn target b cs at ≡ verdict
   verdict-is = ap (λ (l : List ℕ). judgeOf (kindOf (target .chip) (getD l 0 0)) (length l) (headOf (kindOf (target .chip) (getD l 0 0)) l) st) e
 
-  header : verdict ≡ Passed → headerVerdict (kindOf (target .chip) d) d (suc (length ds)) ≡ Passed
-  unfolding headOf
-  header v = passed-header (kindOf (target .chip) d) (suc (length ds)) (headOf (kindOf (target .chip) d) (d ∷ ds)) st v
-
   stands : verdict ≡ Passed → Stands target b cs at c
-  unfolding stateOf
   stands v =
-      let t = passes-in d ds at st v in
       let n = inside in
-      record {
-        is = sym (ap (λ (l : List ℕ). commandAt (kindOf (target .chip) (getD l 0 0)) l at st) e);
-        faultless = verdict-is ∙ v;
-        whole = omega arith;
-        known = known-kind (kindOf (target .chip) d) d (suc (length ds)) (header v);
-        gatewayState = kind-eight (target .chip) d;
-      }
+      subst (Stands target b cs at) (ap (λ (l : List ℕ). commandAt (kindOf (target .chip) (getD l 0 0)) l at st) e)
+      (stands-at target b cs at (omega arith) (verdict-is ∙ v))
 
 -- n counts the dwords that the last command still has
 laid : (target : Target) (b l : List ℕ) (n at : ℕ) (cs : List Command) → drop at b ≡ l → at + n ≤ length b
