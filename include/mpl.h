@@ -65,8 +65,10 @@ enum {
 
 /*
  * Order, number 8: CURBE load, descriptor load, OBJECT and gateway state need an earlier VFE. A VFE needs that none of these four and no
- * VFE stands since the last MI_FLUSH or the start; a descriptor load, that no OBJECT stands since the last MI_FLUSH or state flush. An
- * OBJECT's descriptor index is below the count last loaded.
+ * VFE stands since the last MI_FLUSH or the start. Where its dwords 1 to 4 are those of the last VFE before it, to the last bit, so that
+ * only scoreboard enable, type, mask or deltas can differ (dwords 5 to 7), a state flush is enough: it needs that none stands since the
+ * last MI_FLUSH or state flush. A descriptor load needs that no OBJECT stands since the last MI_FLUSH or state flush. An OBJECT's
+ * descriptor index is below the count last loaded.
  */
 
 /* Kinds of command, in word 0 of a record. */

@@ -45,7 +45,7 @@ fn after_vfe(h: [u32; 8], st: State) -> State
     next.vfe_dword3 = h[3];
     next.vfe_dword4 = h[4];
     next.media_since_flush = 1;
-    next.media_since_either = 1;
+    next.media_since_either = 1; // it stands itself
     next
 }
 
@@ -83,7 +83,7 @@ pub fn after(k: u32, h: [u32; 8], st: State) -> State
             next
         }
         6 => {
-            next.media_since_either = 0;
+            next.media_since_either = 0; // enough for a change of the scoreboard alone
             next.object_since_flush = 0;
             next
         }

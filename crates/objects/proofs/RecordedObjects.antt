@@ -34,12 +34,6 @@ objects-count all (c ∷ cs) = go (eqb (c .kind) 7) (objects-count all cs)
     go true e = add-one (objectCount cs) ∙ ap suc e
     go false e = e
 
-under-at : (all cs : List Command) (i : ℕ) → UnderVfe all cs → i < length cs → commandNumber cs i .kind ≡ 7
-    → (commandNumber cs i .vfe < length all) × (commandNumber all (commandNumber cs i .vfe) .kind ≡ 3)
-under-at all [] i u h e = absurd (omega arith)
-under-at all (c ∷ cs) zero u h e = u .0 e
-under-at all (c ∷ cs) (suc i) u h e = under-at all cs i (u .1) (omega arith) e
-
 -- commands with the numbers of their objects, the first of which is m
 abbrev Counted : ℕ → List Command → Type 0
 Counted m [] = Unit
@@ -87,7 +81,7 @@ module _ (all : List Command) (d : List ℕ) (held : (i f : ℕ) → i < length 
       ∙ numbers all 0 0 (λ j l. ap (isObject d) (let y : 0 + j ≡ j = omega arith in y) ∙ kind-is j l) u r h
       ∙ z
 
-  module _ (u : UnderVfe all all) where
+  module _ (u : UnderVfe all) where
     module _ (i : ℕ) (h : i < length all) (e : commandNumber all i .kind ≡ 7) where
       abbrev c : Command
       c = commandNumber all i
@@ -98,12 +92,12 @@ module _ (all : List Command) (d : List ℕ) (held : (i f : ℕ) → i < length 
 
       vfe-word : (f v : ℕ) → f < 16 → getD (recordOf (commandNumber all (c .vfe))) f 0 ≡ v → vfeWordAt d i f ≡ v
       unfolding vfeWordAt
-      vfe-word f v q r = ap (λ (x : ℕ). wordAt d x f) vfe-number ∙ held (c .vfe) f (under-at all all i u h e .0) q ∙ r
+      vfe-word f v q r = let b = u i h e .before in ap (λ (x : ℕ). wordAt d x f) vfe-number ∙ held (c .vfe) f (omega arith) q ∙ r
 
       object-is : objectRecorded d i ≡ objectOf (c .head) (commandNumber all (c .vfe) .head)
       unfolding objectRecorded recordOf
       object-is =
-          let z = under-at all all i u h e .1 in
+          let z = u i h e .vfe in
           simp (
             word i h 7 (fields.positionX (c .head)) (omega arith) (simp e),
             word i h 8 (fields.positionY (c .head)) (omega arith) (simp e),
@@ -129,7 +123,7 @@ module _ (all : List Command) (d : List ℕ) (held : (i f : ℕ) → i < length 
         go false q h ih = simp (kind-is i h ∙ q, q) ih
 
 -- LAW: the objects out of the records are those of the commands
-pub recorded-objects : (cs : List Command) (r : List ℕ) → UnderVfe cs cs → 16 * length cs ≤ length r → objectsRecorded (written set cs 0 r) (length cs) ≡ objectsOf cs cs
+pub recorded-objects : (cs : List Command) (r : List ℕ) → UnderVfe cs → 16 * length cs ≤ length r → objectsRecorded (written set cs 0 r) (length cs) ≡ objectsOf cs cs
 unfolding wordAt
 recorded-objects cs r u h = from cs (written set cs 0 r) (λ i f p q. word-at cs r i f noCommand h p q) u (length cs) 0 (omega arith)
 

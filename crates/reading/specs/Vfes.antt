@@ -13,7 +13,12 @@ noCommand = record { kind = 0; place = 0; total = 0; head = []; vfe = 0; object 
 abbrev pub commandNumber : List Command → ℕ → Command
 commandNumber cs i = getD cs i noCommand
 
--- each OBJECT of the list cs names a VFE of the list `all`
-abbrev pub UnderVfe : List Command → List Command → Type 0
-UnderVfe all [] = Unit
-UnderVfe all (c ∷ cs) = (c .kind ≡ 7 → (c .vfe < length all) × (commandNumber all (c .vfe) .kind ≡ 3)) × UnderVfe all cs
+-- number v of a list is the VFE in force at number n of it, the nearest one before, whatever flushes stand between
+pub record NearestVfe (cs : List Command) (n v : ℕ) : Type 0 where
+  pub before : v < n
+  pub vfe : commandNumber cs v .kind ≡ 3
+  pub nearest : (j : ℕ) → v < j → j < n → commandNumber cs j .kind ≡ 3 → ⊥
+
+-- Each OBJECT of a list names the VFE in force, so that of two VFEs with other deltas, types or masks it is judged by its own.
+abbrev pub UnderVfe : List Command → Type 0
+UnderVfe cs = (i : ℕ) → i < length cs → commandNumber cs i .kind ≡ 7 → NearestVfe cs i (commandNumber cs i .vfe)
