@@ -50,8 +50,8 @@ scoreboardOnly h st =
 abbrev pub withoutFullFlush : State → Bool
 withoutFullFlush st = isSet (st .«media_since_flush»)
 
--- Does a VFE with own dwords h stand without the flush that it needs? Document 02, Two: "a media state flush is enough" where only the
--- scoreboard differs; "On either chip such a VFE now passes 8 if no command of kind 3, 4, 5, 7 or 8 stands since the last kind 1 or kind 6".
+-- Does a VFE with own dwords h stand without the flush that it needs? Document 02, Two, where only the scoreboard differs: "a media state
+-- flush is enough. On either chip such a VFE now passes 8 if no command of kind 3, 4, 5, 7 or 8 stands since the last kind 1 or kind 6."
 abbrev pub withoutFlush : List ℕ → State → Bool
 withoutFlush h st = withoutFullFlush st && not (not (isSet (st .«media_since_either»)) && scoreboardOnly h st)
 

@@ -67,8 +67,8 @@ fn scoreboard_only(h: [u32; 8], st: State) -> bool
     h[4] == st.vfe_dword4
 }
 
-// Does a VFE stand without the flush that it needs? Where nothing stands since the last MI_FLUSH it needs none; else a state flush is enough
-// for a change of the scoreboard alone.
+// Does a VFE stand without the flush that it needs? Where nothing stands since the last MI_FLUSH, it needs none; for a change of the
+// scoreboard alone a state flush is enough.
 fn without_flush(h: [u32; 8], st: State) -> bool
     ensures { λ r. ⌜ r ≡ withoutFlush h st ⌝ }
 {
