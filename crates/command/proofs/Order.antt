@@ -1,17 +1,16 @@
 -- What commands set, one at a time, is what their list says. Assumes nothing.
-use mathlib.Core.Path.{_≡_, refl, sym, ap, _∙_}
+use mathlib.Core.Path.{_≡_, refl, sym, ap, subst, _∙_}
 use mathlib.Core.Bool.{Bool, true, false, cond, _||_}
 use Prim.Native.Nat.{ℕ, _+_}
 use native.Mathlib.Numerals.{add-one}
 use mathlib.Core.List.{List, [], _∷_, _++_}
 use lib.ListN.{getD}
-use lib.Dec.{eqb}
-use borrow.Author.Tests.{eq-eqb}
-use Rattle.laws.proofs.Choices.{not-both}
-use Rattle.laws.specs.BitRanges.{Bits, field}
+use lib.Dec.{leb, eqb}
+use borrow.Author.Tests.{eqb-true, eq-eqb}
+use Rattle.laws.proofs.Choices.{by-test, not-both}
 use Rattle.chips.specs.declared.Target.{Target}
 use Rattle.command.specs.declared.State.{State}
-use Rattle.command.specs.Order.{Command, among, since, flag, isSet, standsSince, earlierVfe, countLoaded, stateInForce, vfeInForce, objectCount, stateOf, stateAfter}
+use Rattle.command.specs.Order.{Command, among, since, flag, isSet, standsSince, earlierVfe, mediaKinds, fullFlush, eitherFlush, objectKinds, mediaSinceFlush, mediaSinceEither, objectSinceFlush, countLoaded, stateInForce, vfeInForce, objectCount, stateOf, StateTells, withMedia, stateFlushed, standingAfter, stateAfter}
 
 flag-since : (kinds last : List ℕ) (k : ℕ) (t : Bool) → flag (since false true kinds last k t) ≡ since 0 1 kinds last k (flag t)
 flag-since kinds last k t = go (among k last) (among k kinds)
@@ -25,14 +24,6 @@ flag-since kinds last k t = go (among k last) (among k kinds)
 dword-of : (t : Bool) (h h′ : List ℕ) (i : ℕ) → getD (cond t h h′) i 0 ≡ cond t (getD h i 0) (getD h′ i 0)
 dword-of true h h′ i = refl
 dword-of false h h′ i = refl
-
-field-of : (r : Bits) (t : Bool) (d d′ : ℕ) → field r (cond t d d′) ≡ cond t (field r d) (field r d′)
-field-of r true d d′ = refl
-field-of r false d d′ = refl
-
-pub state-after : (target : Target) (c : Command) (cs : List Command) → stateOf target (c ∷ cs) ≡ stateAfter (c .kind) (c .head) (stateOf target cs)
-unfolding stateOf stateAfter standsSince countLoaded stateInForce vfeInForce objectCount
-state-after target c cs = simp (add-one, flag-since, dword-of, field-of)
 
 among-more : (k : ℕ) (xs more : List ℕ) → among k xs ≡ true → among k (xs ++ more) ≡ true
 among-more k [] more e = absurd (not-both false e refl)
@@ -55,6 +46,85 @@ fewer-stand kinds last more (c ∷ cs) e =
     go true false b p ih e = absurd (not-both false (p refl) refl)
     go false false true p ih e = absurd (not-both true refl e)
     go false false false p ih e = ih e
+
+-- .. and nothing of fewer kinds: where a kind is one of others, none of it stands where none of those does
+pub none-stands : (k : ℕ) (kinds last : List ℕ) (cs : List Command) → among k kinds ≡ true → standsSince kinds last cs ≡ false
+    → standsSince (k ∷ []) last cs ≡ false
+unfolding standsSince
+none-stands k kinds last [] m e = refl
+none-stands k kinds last (c ∷ cs) m e =
+    go (among (c .kind) last) (eqb (c .kind) k) (among (c .kind) kinds) (λ q. ap (λ (x : ℕ). among x kinds) (eqb-true (c .kind) k q) ∙ m) (none-stands k kinds last cs m) e
+  where
+    go : (a b b′ : Bool) → (b ≡ true → b′ ≡ true) → (standsSince kinds last cs ≡ false → standsSince (k ∷ []) last cs ≡ false)
+        → cond a false (cond b′ true (standsSince kinds last cs)) ≡ false → cond a false (cond (b || false) true (standsSince (k ∷ []) last cs)) ≡ false
+    go true b b′ p ih e = refl
+    go false b true p ih e = absurd (not-both true refl e)
+    go false true false p ih e = absurd (not-both false (p refl) refl)
+    go false false false p ih e = ih e
+
+-- What stands, as one number: three flags of which each says those before it.
+pub record Nested (full either object : Bool) : Type 0 where
+  pub fullFirst : full ≡ false → either ≡ false
+  pub eitherFirst : either ≡ false → object ≡ false
+
+nested : (cs : List Command) → Nested (mediaSinceFlush cs) (mediaSinceEither cs) (objectSinceFlush cs)
+nested cs =
+    record {
+      fullFirst = fewer-stand mediaKinds fullFlush (6 ∷ []) cs;
+      eitherFirst = none-stands 7 mediaKinds eitherFlush cs refl;
+    }
+
+-- so there are four cases
+by-nested : (P : Bool → Bool → Bool → Type 0) (a b o : Bool) → Nested a b o → P false false false → P true false false → P true true false → P true true true → P a b o
+by-nested P false false false n p q r s = p
+by-nested P false false true n p q r s = absurd (not-both true refl (n .eitherFirst refl))
+by-nested P false true o n p q r s = absurd (not-both true refl (n .fullFirst refl))
+by-nested P true false false n p q r s = q
+by-nested P true false true n p q r s = absurd (not-both true refl (n .eitherFirst refl))
+by-nested P true true false n p q r s = r
+by-nested P true true true n p q r s = s
+
+-- LAW
+pub state-tells : (target : Target) (cs : List Command) → StateTells target cs
+unfolding stateOf
+state-tells target cs =
+    record {
+      media = by-nested (λ (a b o : Bool). leb 1 (flag a + flag b + flag o) ≡ a) _ _ _ (nested cs) refl refl refl refl;
+      either = by-nested (λ (a b o : Bool). leb 2 (flag a + flag b + flag o) ≡ b) _ _ _ (nested cs) refl refl refl refl;
+      object = by-nested (λ (a b o : Bool). leb 3 (flag a + flag b + flag o) ≡ o) _ _ _ (nested cs) refl refl refl refl;
+      curbe = refl;
+    }
+
+-- one command more: whether it is an MI_FLUSH, a state flush, an OBJECT, one of the kinds
+module _ (a b o : Bool) (n : Nested a b o) where
+  abbrev so-far : ℕ
+  so-far = flag a + flag b + flag o
+
+  one-of-kinds : (media : Bool) → flag (cond media true a) + flag (cond media true b) + flag o ≡ cond media (withMedia so-far) so-far
+  one-of-kinds true = by-nested (λ (x y z : Bool). 1 + 1 + flag z ≡ withMedia (flag x + flag y + flag z)) a b o n refl refl refl refl
+  one-of-kinds false = refl
+
+  one-more : (flush state object media : Bool) → (state ≡ true → media ≡ false) → (object ≡ true → media ≡ true)
+      → flag (cond (flush || false) false (cond media true a)) + flag (cond (flush || (state || false)) false (cond media true b))
+      + flag (cond (flush || (state || false)) false (cond (object || false) true o))
+      ≡ cond flush 0 (cond state (stateFlushed so-far) (cond object 3 (cond media (withMedia so-far) so-far)))
+  one-more true state object media p q = refl
+  one-more false true object true p q = absurd (not-both true refl (p refl))
+  one-more false true object false p q = by-nested (λ (x y z : Bool). flag x + 0 + 0 ≡ stateFlushed (flag x + flag y + flag z)) a b o n refl refl refl refl
+  one-more false false true true p q = refl
+  one-more false false true false p q = absurd (not-both false (q refl) refl)
+  one-more false false false media p q = one-of-kinds media
+
+standing-after : (k : ℕ) (a b o : Bool) → Nested a b o
+    → flag (since false true mediaKinds fullFlush k a) + flag (since false true mediaKinds eitherFlush k b) + flag (since false true objectKinds eitherFlush k o)
+    ≡ standingAfter k (flag a + flag b + flag o)
+standing-after k a b o n =
+    one-more a b o n (eqb k 1) (eqb k 6) (eqb k 7) (among k mediaKinds)
+    (λ e. ap (λ (x : ℕ). among x mediaKinds) (eqb-true k 6 e)) (λ e. ap (λ (x : ℕ). among x mediaKinds) (eqb-true k 7 e))
+
+pub state-after : (target : Target) (c : Command) (cs : List Command) → stateOf target (c ∷ cs) ≡ stateAfter (c .kind) (c .head) (stateOf target cs)
+unfolding stateOf stateAfter standsSince countLoaded stateInForce vfeInForce objectCount
+state-after target c cs = simp (add-one, flag-since (3 ∷ []) [] (c .kind) (earlierVfe cs), dword-of, standing-after (c .kind) _ _ _ (nested cs))
 
 -- the VFE state in force is that of the nearest VFE
 pub nearest-vfe : (xs : List Command) (c : Command) (ys : List Command) → earlierVfe xs ≡ false → c .kind ≡ 3 → stateInForce (xs ++ (c ∷ ys)) ≡ c .head

@@ -3,8 +3,10 @@
 use Prim.Native.Nat.{ℕ, _+_}
 use mathlib.Core.Bool.{Bool, true, false, cond, not, _||_}
 use mathlib.Core.List.{List, [], _∷_}
+use mathlib.Core.Path.{_≡_}
 use lib.ListN.{length}
-use lib.Dec.{eqb}
+use lib.Dec.{leb, eqb}
+use Rattle.laws.specs.BitRanges.{bits, field}
 use Rattle.chips.specs.declared.Target.{Target}
 use Rattle.command.specs.declared.State.{State}
 use Rattle.command.specs.Fields.{dword, curbeSize, loadCount}
@@ -39,27 +41,27 @@ abbrev pub earlierVfe : List Command → Bool
 earlierVfe cs = standsSince (3 ∷ []) [] cs
 
 -- "no command of kind 3, 4, 5 or 7 stands since the last MI_FLUSH or the start": those kinds, kind 8, and the flush's
-abbrev mediaKinds : List ℕ
+abbrev pub mediaKinds : List ℕ
 mediaKinds = 3 ∷ 4 ∷ 5 ∷ 7 ∷ 8 ∷ []
 
-abbrev fullFlush : List ℕ
+abbrev pub fullFlush : List ℕ
 fullFlush = 1 ∷ []
 
 abbrev pub mediaSinceFlush : List Command → Bool
 mediaSinceFlush cs = standsSince mediaKinds fullFlush cs
 
 -- document 02, Two: "no command of kind 3, 4, 5, 7 or 8 stands since the last kind 1 or kind 6": the same kinds, and either flush's
-abbrev eitherFlush : List ℕ
+abbrev pub eitherFlush : List ℕ
 eitherFlush = 1 ∷ 6 ∷ []
 
 abbrev pub mediaSinceEither : List Command → Bool
 mediaSinceEither cs = standsSince mediaKinds eitherFlush cs
 
 -- "no OBJECT stands since the last kind 1 or 6": its kind, and those two
-abbrev objectKinds : List ℕ
+abbrev pub objectKinds : List ℕ
 objectKinds = 7 ∷ []
 
-abbrev objectSinceFlush : List Command → Bool
+abbrev pub objectSinceFlush : List Command → Bool
 objectSinceFlush cs = standsSince objectKinds eitherFlush cs
 
 -- "the count last loaded; a VFE keeps that count"
@@ -71,10 +73,6 @@ countLoaded (c ∷ cs) = cond (eqb (c .kind) 5) (loadCount (c .head)) (countLoad
 unfoldable pub stateInForce : List Command → List ℕ
 stateInForce [] = []
 stateInForce (c ∷ cs) = cond (eqb (c .kind) 3) (c .head) (stateInForce cs)
-
--- the "CURBE size in force": that VFE's
-abbrev pub curbeInForce : List Command → ℕ
-curbeInForce cs = curbeSize (stateInForce cs)
 
 -- the "record number of the VFE in force": how many commands stand before it
 unfoldable pub vfeInForce : List Command → ℕ
@@ -93,6 +91,11 @@ flag t = cond t 1 0
 abbrev pub isSet : ℕ → Bool
 isSet n = not (eqb n 0)
 
+-- What stands, as one number. Where an OBJECT stands since the last of either flush, a command of the kinds does, and where one does, one
+-- stands since the last MI_FLUSH: so the flags' sum tells them all.
+abbrev standing : List Command → ℕ
+standing cs = flag (mediaSinceFlush cs) + flag (mediaSinceEither cs) + flag (objectSinceFlush cs)
+
 -- all of that, with what the batch is judged for
 unfoldable pub stateOf : Target → List Command → State
 stateOf target cs =
@@ -101,21 +104,51 @@ stateOf target cs =
       capacity = target .capacity;
       «earlier_vfe» = flag (earlierVfe cs);
       «vfe_in_force» = vfeInForce cs;
-      «curbe_in_force» = curbeInForce cs;
       «vfe_dword1» = dword (stateInForce cs) 1;
       «vfe_dword2» = dword (stateInForce cs) 2;
       «vfe_dword3» = dword (stateInForce cs) 3;
       «vfe_dword4» = dword (stateInForce cs) 4;
       «count_loaded» = countLoaded cs;
-      «media_since_flush» = flag (mediaSinceFlush cs);
-      «media_since_either» = flag (mediaSinceEither cs);
-      «object_since_flush» = flag (objectSinceFlush cs);
+      standing = standing cs;
       commands = length cs;
       objects = objectCount cs;
     }
 
--- The same one command at a time: what stands after a command of kind k with own dwords h. `state-after` of proofs/Order.antt shows that
--- it is `stateOf` of the longer list.
+-- What a state tells of the commands before. Does one of the kinds stand since the last MI_FLUSH, or since the last of either flush; does
+-- an OBJECT since the last of either?
+abbrev pub mediaStands : State → Bool
+mediaStands st = leb 1 (st .standing)
+
+abbrev pub mediaStandsEither : State → Bool
+mediaStandsEither st = leb 2 (st .standing)
+
+abbrev pub objectStands : State → Bool
+objectStands st = leb 3 (st .standing)
+
+-- the "CURBE size in force": that of the VFE in force, bits 15:0 of its dword 4
+abbrev pub curbeInForce : State → ℕ
+curbeInForce st = field (bits 15 0) (st .«vfe_dword4»)
+
+-- and that it is what their list says
+pub record StateTells (target : Target) (cs : List Command) : Type 0 where
+  pub media : mediaStands (stateOf target cs) ≡ mediaSinceFlush cs
+  pub either : mediaStandsEither (stateOf target cs) ≡ mediaSinceEither cs
+  pub object : objectStands (stateOf target cs) ≡ objectSinceFlush cs
+  pub curbe : curbeInForce (stateOf target cs) ≡ curbeSize (stateInForce cs)
+
+-- The same one command at a time: what stands after a command of kind 3, 4, 5 or 8, after a state flush, after one of kind k ..
+abbrev pub withMedia : ℕ → ℕ
+withMedia n = cond (leb 2 n) n 2
+
+abbrev pub stateFlushed : ℕ → ℕ
+stateFlushed n = cond (leb 1 n) 1 n
+
+abbrev pub standingAfter : ℕ → ℕ → ℕ
+standingAfter k n =
+    cond (eqb k 1) 0 (cond (eqb k 6) (stateFlushed n) (cond (eqb k 7) 3 (cond (among k mediaKinds) (withMedia n) n)))
+
+-- .. and all that is set after a command of kind k with own dwords h. `state-after` of proofs/Order.antt shows that it is `stateOf` of the
+-- longer list.
 unfoldable pub stateAfter : ℕ → List ℕ → State → State
 stateAfter k h st =
     record {
@@ -123,15 +156,12 @@ stateAfter k h st =
       capacity = st .capacity;
       «earlier_vfe» = since 0 1 (3 ∷ []) [] k (st .«earlier_vfe»);
       «vfe_in_force» = cond (eqb k 3) (st .commands) (st .«vfe_in_force»);
-      «curbe_in_force» = cond (eqb k 3) (curbeSize h) (st .«curbe_in_force»);
       «vfe_dword1» = cond (eqb k 3) (dword h 1) (st .«vfe_dword1»);
       «vfe_dword2» = cond (eqb k 3) (dword h 2) (st .«vfe_dword2»);
       «vfe_dword3» = cond (eqb k 3) (dword h 3) (st .«vfe_dword3»);
       «vfe_dword4» = cond (eqb k 3) (dword h 4) (st .«vfe_dword4»);
       «count_loaded» = cond (eqb k 5) (loadCount h) (st .«count_loaded»);
-      «media_since_flush» = since 0 1 mediaKinds fullFlush k (st .«media_since_flush»);
-      «media_since_either» = since 0 1 mediaKinds eitherFlush k (st .«media_since_either»);
-      «object_since_flush» = since 0 1 objectKinds eitherFlush k (st .«object_since_flush»);
+      standing = standingAfter k (st .standing);
       commands = st .commands + 1;
       objects = cond (eqb k 7) (st .objects + 1) (st .objects);
     }

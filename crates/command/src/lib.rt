@@ -4,27 +4,23 @@ pub mod states;
 
 use chips::Chip;
 
-// What the batch is judged for, the chip and the capacity in rows, and what the commands before a command have set. The flags are 1 or 0:
-// as bools, whose bytes are stored one by one and loaded as one word, they held up the loop.
+// What the batch is judged for, the chip and the capacity in rows, and what the commands before a command have set. The flag is 1 or 0: as
+// a bool, whose byte is stored alone and loaded as a part of a word, it held up the loop.
 pub struct State {
     pub chip: Chip,
     pub capacity: u32,
     pub earlier_vfe: u32,
-    // the VFE in force: the number of its record, its CURBE size in rows, and its dwords 1 to 4, which have all of it but the scoreboard
+    // the VFE in force: the number of its record, and its dwords 1 to 4, which have all of it but the scoreboard
     pub vfe_in_force: u32,
-    pub curbe_in_force: u32,
     pub vfe_dword1: u32,
     pub vfe_dword2: u32,
     pub vfe_dword3: u32,
     pub vfe_dword4: u32,
     // descriptors last loaded
     pub count_loaded: u32,
-    // a command of kind 3, 4, 5, 7 or 8 stands since the last MI_FLUSH
-    pub media_since_flush: u32,
-    // one stands since the last MI_FLUSH or MEDIA_STATE_FLUSH
-    pub media_since_either: u32,
-    // an OBJECT stands since the last MI_FLUSH or MEDIA_STATE_FLUSH
-    pub object_since_flush: u32,
+    // 1: a command of kind 3, 4, 5, 7 or 8 stands since the last MI_FLUSH; 2: since the last MI_FLUSH or MEDIA_STATE_FLUSH; 3: an OBJECT
+    // does; 0: none. One number, as what is kept in registers is little.
+    pub standing: u32,
     pub commands: u32,
     pub objects: u32,
 }

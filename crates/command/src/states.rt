@@ -2,7 +2,7 @@
 ghost use mathlib.Core.Path.{_≡_};
 ghost use mathlib.Core.List.{[]};
 ghost use Prim.Native.Nat.{_+_, _<_, _^_};
-ghost use Rattle.command.specs.Order.{stateOf, stateAfter};
+ghost use Rattle.command.specs.Order.{withMedia, stateFlushed, stateOf, stateAfter};
 use crate::State;
 use chips::Target;
 
@@ -16,21 +16,38 @@ pub fn start(target: Target) -> State
         capacity: target.capacity,
         earlier_vfe: 0,
         vfe_in_force: 0,
-        curbe_in_force: 0,
         vfe_dword1: 0,
         vfe_dword2: 0,
         vfe_dword3: 0,
         vfe_dword4: 0,
         count_loaded: 0,
-        media_since_flush: 0,
-        media_since_either: 0,
-        object_since_flush: 0,
+        standing: 0,
         commands: 0,
         objects: 0,
     }
 }
 
-// After a VFE, which is in force from here on.
+// What stands after one more command of kind 3, 4, 5 or 8.
+fn with_media(standing: u32) -> u32
+    ensures { λ r. ⌜ r ≡ withMedia standing ⌝ }
+{
+    if standing < 2 {
+        return 2;
+    }
+    standing
+}
+
+// What stands after a MEDIA_STATE_FLUSH: what did since the last MI_FLUSH, and nothing since the last of either.
+fn state_flushed(standing: u32) -> u32
+    ensures { λ r. ⌜ r ≡ stateFlushed standing ⌝ }
+{
+    if 1 <= standing {
+        return 1;
+    }
+    standing
+}
+
+// After a VFE, which is in force from here on, and stands itself.
 fn after_vfe(h: [u32; 8], st: State) -> State
     requires { ⌜ st .commands + 1 < 2 ^ 32 ⌝ }
     ensures { λ r. ⌜ r ≡ stateAfter 3 h st ⌝ }
@@ -39,13 +56,11 @@ fn after_vfe(h: [u32; 8], st: State) -> State
     next.commands = st.commands + 1;
     next.earlier_vfe = 1;
     next.vfe_in_force = st.commands;
-    next.curbe_in_force = h[4] & 0xffff;
     next.vfe_dword1 = h[1];
     next.vfe_dword2 = h[2];
     next.vfe_dword3 = h[3];
     next.vfe_dword4 = h[4];
-    next.media_since_flush = 1;
-    next.media_since_either = 1; // it stands itself
+    next.standing = with_media(st.standing);
     next
 }
 
@@ -58,38 +73,30 @@ pub fn after(k: u32, h: [u32; 8], st: State) -> State
     next.commands = st.commands + 1;
     match k {
         7 => {
-            next.media_since_flush = 1;
-            next.media_since_either = 1;
-            next.object_since_flush = 1;
+            next.standing = 3;
             next.objects = st.objects + 1;
             next
         }
         1 => {
-            next.media_since_flush = 0;
-            next.media_since_either = 0;
-            next.object_since_flush = 0;
+            next.standing = 0;
             next
         }
         3 => after_vfe(h, st),
         4 => {
-            next.media_since_flush = 1;
-            next.media_since_either = 1;
+            next.standing = with_media(st.standing);
             next
         }
         5 => {
             next.count_loaded = (h[2] & 0x1_ffff) / 32;
-            next.media_since_flush = 1;
-            next.media_since_either = 1;
+            next.standing = with_media(st.standing);
             next
         }
         6 => {
-            next.media_since_either = 0; // enough for a change of the scoreboard alone
-            next.object_since_flush = 0;
+            next.standing = state_flushed(st.standing);
             next
         }
         8 => {
-            next.media_since_flush = 1;
-            next.media_since_either = 1;
+            next.standing = with_media(st.standing);
             next
         }
         _ => next,

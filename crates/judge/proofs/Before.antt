@@ -10,7 +10,7 @@ use Rattle.laws.proofs.Choices.{by-test}
 use Rattle.laws.proofs.Rows.{no-row}
 use Rattle.command.specs.declared.State.{State}
 use Rattle.command.specs.Fields.{dword}
-use Rattle.command.specs.Order.{isSet}
+use Rattle.command.specs.Order.{mediaStandsEither}
 use Rattle.judge.specs.declared.Verdict.{Verdict}
 use Rattle.judge.specs.declared.Verdict.the-variants.{Passed}
 use Rattle.judge.specs.Refusals.{headerRows, ownRowsBy, scoreboardOnly, withoutFullFlush, withoutFlush, judgeBefore, judgeOf}
@@ -41,7 +41,7 @@ module _ (k left : ℕ) (h : List ℕ) (st : State) where
   unfolding judgeBefore judgeOf
   still-passes e =
       passed-by (withoutFullFlush st) (withoutFlush h st) e
-      (λ q. ap (λ (x : Bool). x && not (not (isSet (st .«media_since_either»)) && scoreboardOnly h st)) (flushed-passed (withoutFullFlush st) e q))
+      (λ q. ap (λ (x : Bool). x && not (not (mediaStandsEither st) && scoreboardOnly h st)) (flushed-passed (withoutFullFlush st) e q))
 
   -- .. after a full flush, if it is a VFE ..
   pub before-flushed : judgeBefore k left h st ≡ Passed → k ≡ 3 → withoutFullFlush st ≡ false

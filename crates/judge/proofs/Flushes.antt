@@ -18,8 +18,8 @@ use Rattle.chips.specs.declared.Target.{Target}
 use Rattle.masks.specs.MustBeZero.{marks, markedBits}
 use Rattle.command.specs.declared.State.{State}
 use Rattle.command.specs.Fields.{dword, urbEntries, entrySize, curbeSize}
-use Rattle.command.specs.Order.{Command, standsSince, earlierVfe, mediaSinceFlush, mediaSinceEither, stateInForce, stateOf, flag, isSet}
-use Rattle.command.proofs.Order.{fewer-stand, nearest-vfe}
+use Rattle.command.specs.Order.{Command, standsSince, earlierVfe, mediaSinceFlush, mediaSinceEither, stateInForce, stateOf}
+use Rattle.command.proofs.Order.{fewer-stand, nearest-vfe, state-tells}
 use Rattle.judge.specs.declared.Verdict.{Verdict}
 use Rattle.judge.specs.declared.Verdict.the-variants.{Fault, Passed}
 use Rattle.judge.specs.Refusals.{headerRows, mustBeZero, scoreboardOnly, withoutFlush, ownVerdict, judgeOf}
@@ -108,8 +108,7 @@ marked-five Gen6 d e = clear d e
 marked-five Gen7 d e = clear d e
 
 -- a full flush serves as either
-mixed : (full either only : Bool) → (full ≡ false → either ≡ false)
-    → isSet (flag full) && not (not (isSet (flag either)) && only) ≡ cond only either full
+mixed : (full either only : Bool) → (full ≡ false → either ≡ false) → full && not (not either && only) ≡ cond only either full
 mixed true true true p = refl
 mixed true true false p = refl
 mixed true false true p = refl
@@ -121,10 +120,9 @@ mixed false false false p = refl
 module _ (target : Target) (h : List ℕ) (cs : List Command) where
   unflushed : (only : Bool) → scoreboardOnly h (stateOf target cs) ≡ only
       → withoutFlush h (stateOf target cs) ≡ cond only (standing (1 ∷ 6 ∷ []) cs) (standing (1 ∷ []) cs)
-  unfolding stateOf
   unflushed only e =
-      ap (λ (x : Bool). isSet (flag (mediaSinceFlush cs)) && not (not (isSet (flag (mediaSinceEither cs))) && x)) e
-      ∙ mixed (mediaSinceFlush cs) (mediaSinceEither cs) only (fewer-stand (3 ∷ 4 ∷ 5 ∷ 7 ∷ 8 ∷ []) (1 ∷ []) (6 ∷ []) cs)
+      simp (state-tells target cs .media, state-tells target cs .either, e)
+      (mixed (mediaSinceFlush cs) (mediaSinceEither cs) only (fewer-stand (3 ∷ 4 ∷ 5 ∷ 7 ∷ 8 ∷ []) (1 ∷ []) (6 ∷ []) cs))
 
   is-only : ScoreboardOnly h cs → scoreboardOnly h (stateOf target cs) ≡ true
   unfolding stateOf

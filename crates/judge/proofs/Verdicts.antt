@@ -16,7 +16,7 @@ use Rattle.masks.specs.MustBeZero.{marks, markedBits}
 use Rattle.command.specs.declared.State.{State}
 use Rattle.judge.specs.declared.Verdict.{Verdict}
 use Rattle.judge.specs.declared.Verdict.the-variants.{Fault, Passed}
-use Rattle.command.specs.Order.{isSet}
+use Rattle.command.specs.Order.{isSet, objectStands, curbeInForce}
 use Rattle.command.specs.Fields.{urbEntries, entrySize, curbeSize, loadLength, loadAddress, descriptorIndex}
 use Rattle.judge.specs.Refusals.{mustBeZero, withoutFlush, ownRows, ownVerdict}
 
@@ -51,7 +51,7 @@ module _ (h : List ℕ) (st : State) where
       ∷ row (Fault 7 2) (not (eqb (loadLength h % 32) 0))
       ∷ row (Fault 7 3) (not (eqb (loadAddress h % 32) 0))
       ∷ row (Fault 8 0) (not (isSet (st .«earlier_vfe»)))
-      ∷ row (Fault 9 0) (ltb (32 * st .«curbe_in_force») (loadLength h))
+      ∷ row (Fault 9 0) (ltb (32 * curbeInForce st) (loadLength h))
       ∷ []
 
   curbe-on : (c : Chip) → own c 4 ≡ firstRow Passed (curbeRows c)
@@ -72,7 +72,7 @@ module _ (h : List ℕ) (st : State) where
       ∷ row (Fault 7 2) (ltb 2048 (loadLength h))
       ∷ row (Fault 7 3) (not (eqb (loadAddress h % 32) 0))
       ∷ row (Fault 8 0) (not (isSet (st .«earlier_vfe»)))
-      ∷ row (Fault 8 0) (isSet (st .«object_since_flush»))
+      ∷ row (Fault 8 0) (objectStands st)
       ∷ []
 
   descriptor-on : (c : Chip) → own c 5 ≡ firstRow Passed (descriptorRows c)
@@ -159,8 +159,8 @@ pub as-kind : (k n : ℕ) (h : List ℕ) (st : State) (v : Verdict) → k ≡ n 
 as-kind k n h st v p e = e ∙ ap (λ (x : ℕ). ownVerdict x h st) (sym p)
 
 -- bounds of what a mask leaves
-pub mask-under : (x m n : ℕ) → m < n → bitAnd x m < n
-mask-under x m n l = lt-of-le-of-lt (and-le-r x m) l
+pub curbe-fits : (x : ℕ) → 32 * bitAnd x 65535 < 2 ^ 32
+curbe-fits x = let p = and-le-r x 65535 in omega arith
 
 pub product-fits : (x y : ℕ) → bitAnd x 255 * bitAnd y 65535 < 2 ^ 32
 product-fits x y = lt-of-le-of-lt (mul-le-mul (and-le-r x 255) (and-le-r y 65535)) (lit< tt)

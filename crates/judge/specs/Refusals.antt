@@ -12,7 +12,7 @@ use Rattle.command.specs.declared.State.{State}
 use Rattle.judge.specs.declared.Verdict.{Verdict}
 use Rattle.judge.specs.declared.Verdict.the-variants.{Fault, Passed}
 use Rattle.command.specs.Kinds.{noKind, lengthField, lengthAllowed, totalOf}
-use Rattle.command.specs.Order.{isSet}
+use Rattle.command.specs.Order.{isSet, mediaStands, mediaStandsEither, objectStands, curbeInForce}
 use Rattle.masks.specs.MustBeZero.{markedBits}
 use Rattle.command.specs.Fields.{dword, urbEntries, entrySize, curbeSize, loadLength, loadAddress, descriptorIndex}
 
@@ -48,12 +48,12 @@ scoreboardOnly h st =
 -- Document 01: "A VFE needs that no command of kind 3, 4, 5 or 7 stands since the last MI_FLUSH or the start"; kind 8 too, "counting with
 -- it before a VFE (H)". Does one stand?
 abbrev pub withoutFullFlush : State → Bool
-withoutFullFlush st = isSet (st .«media_since_flush»)
+withoutFullFlush st = mediaStands st
 
 -- Does a VFE with own dwords h stand without the flush that it needs? Document 02, Two, where only the scoreboard differs: "a media state
 -- flush is enough. On either chip such a VFE now passes 8 if no command of kind 3, 4, 5, 7 or 8 stands since the last kind 1 or kind 6."
 abbrev pub withoutFlush : List ℕ → State → Bool
-withoutFlush h st = withoutFullFlush st && not (not (isSet (st .«media_since_either»)) && scoreboardOnly h st)
+withoutFlush h st = withoutFullFlush st && not (not (mediaStandsEither st) && scoreboardOnly h st)
 
 -- Rows 6 to 9 read the own dwords h, by the chip's masks, and what the commands before have set. Whether a VFE stands without its flush is
 -- an argument, as document 02 changed that and nothing else.
@@ -77,13 +77,13 @@ ownRowsBy unflushed c k h st =
     -- 8: "A VFE needs that no command of kind 3, 4, 5 or 7 stands since ..": above
     ∷ row (Fault 8 0) (eqb k 3 && unflushed)
     -- 8: "A descriptor load needs that no OBJECT stands since the last kind 1 or 6"
-    ∷ row (Fault 8 0) (eqb k 5 && isSet (st .«object_since_flush»))
+    ∷ row (Fault 8 0) (eqb k 5 && objectStands st)
     -- 8: "An OBJECT's index is below the count last loaded"
     ∷ row (Fault 8 0) (eqb k 7 && leb (st .«count_loaded») (descriptorIndex h))
     -- 9: "VFE: entries x entry size + CURBE size exceeds the lent capacity in rows"
     ∷ row (Fault 9 0) (eqb k 3 && ltb (st .capacity) (urbEntries h * entrySize h + curbeSize h))
     -- 9: "CURBE load: length exceeds 32 x CURBE size in force"
-    ∷ row (Fault 9 0) (eqb k 4 && ltb (32 * st .«curbe_in_force») (loadLength h))
+    ∷ row (Fault 9 0) (eqb k 4 && ltb (32 * curbeInForce st) (loadLength h))
     ∷ []
 
 abbrev pub ownRows : Chip → ℕ → List ℕ → State → List (Row Verdict)

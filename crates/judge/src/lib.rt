@@ -72,10 +72,10 @@ fn scoreboard_only(h: [u32; 8], st: State) -> bool
 fn without_flush(h: [u32; 8], st: State) -> bool
     ensures { λ r. ⌜ r ≡ withoutFlush h st ⌝ }
 {
-    if st.media_since_flush == 0 {
+    if st.standing < 1 {
         return false;
     }
-    if st.media_since_either != 0 {
+    if 2 <= st.standing {
         return true;
     }
     !scoreboard_only(h, st)
@@ -126,7 +126,7 @@ fn curbe_load(h: [u32; 8], st: State) -> Verdict
     if st.earlier_vfe == 0 {
         return Verdict::Fault { number: 8, skip: 0 };
     }
-    if 32 * (st.curbe_in_force as u64) < length as u64 {
+    if 32 * (st.vfe_dword4 & 0xffff) < length {
         return Verdict::Fault { number: 9, skip: 0 };
     }
     Verdict::Passed
@@ -158,7 +158,7 @@ fn descriptor_load(h: [u32; 8], st: State) -> Verdict
     if st.earlier_vfe == 0 {
         return Verdict::Fault { number: 8, skip: 0 };
     }
-    if st.object_since_flush != 0 {
+    if 3 <= st.standing {
         return Verdict::Fault { number: 8, skip: 0 };
     }
     Verdict::Passed

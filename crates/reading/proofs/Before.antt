@@ -9,9 +9,8 @@ use Rattle.chips.specs.declared.Target.{Target}
 use Rattle.judge.specs.declared.Verdict.{Verdict}
 use Rattle.judge.specs.declared.Verdict.the-variants.{Passed}
 use Rattle.command.specs.Kinds.{kindOf, headOf}
-use Rattle.command.specs.Order.{Command, flag, isSet, mediaSinceFlush, stateOf}
-use Rattle.command.proofs.Order.{set-flag}
-use Rattle.judge.specs.Refusals.{withoutFullFlush}
+use Rattle.command.specs.Order.{Command, mediaSinceFlush, stateOf}
+use Rattle.command.proofs.Order.{state-tells}
 use Rattle.judge.proofs.Before.{still-passes, before-flushed, passed-before}
 use Rattle.reading.specs.Reading.{Stop, ended, stopped, Whole, Reading, reading, readingOf}
 use Rattle.reading.specs.EndToEnd.{commandIn, verdictIn, Stands, EndToEnd, usedUp, faulty}
@@ -30,15 +29,11 @@ module _ (target : Target) (b : List ℕ) (cs : List Command) (at : ℕ) where
   still-faultless : verdictBefore target b cs at ≡ Passed → verdictIn target b cs at ≡ Passed
   still-faultless = still-passes k (length l) (headOf k l) (stateOf target cs)
 
-  full-flush : mediaSinceFlush cs ≡ withoutFullFlush (stateOf target cs)
-  unfolding stateOf
-  full-flush = sym (set-flag (mediaSinceFlush cs))
-
   was-flushed : verdictBefore target b cs at ≡ Passed → k ≡ 3 → mediaSinceFlush cs ≡ false
-  was-flushed e q = full-flush ∙ before-flushed k (length l) (headOf k l) (stateOf target cs) e q
+  was-flushed e q = sym (state-tells target cs .media) ∙ before-flushed k (length l) (headOf k l) (stateOf target cs) e q
 
   faultless-before : verdictIn target b cs at ≡ Passed → (k ≡ 3 → mediaSinceFlush cs ≡ false) → verdictBefore target b cs at ≡ Passed
-  faultless-before e p = passed-before k (length l) (headOf k l) (stateOf target cs) e (λ q. sym full-flush ∙ p q)
+  faultless-before e p = passed-before k (length l) (headOf k l) (stateOf target cs) e (λ q. state-tells target cs .media ∙ p q)
 
 still-laid : (target : Target) (b : List ℕ) {cs : List Command} {at : ℕ} {xs : List Command} {d : ℕ} → PassedBefore target b cs at xs d
     → EndToEnd target b cs at xs (ended d)

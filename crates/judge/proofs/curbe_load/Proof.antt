@@ -1,7 +1,4 @@
-use Prim.Native.Nat.{_^_}
-use lib.Dec.{lit<}
-use lib.ListN.{getD}
-use Rattle.judge.proofs.Verdicts.{curbe-can, mask-under}
+use Rattle.judge.proofs.Verdicts.{curbe-can, curbe-fits}
 use Rattle.laws.proofs.BitRanges.{coded}
 use borrow.Author.Tests.{eq-eqb, le-ltb, lt-ltb, ne-eqb}
 use borrow.Author.Needs.{needs}
@@ -41,14 +38,8 @@ returns-4 c = rw curbe-can (simp (coded, ← c .before .before .before .before .
 returns-5 : tie.Need-returns-5
 returns-5 c = rw curbe-can (simp (coded, ← c .before .before .before .before .before .before .before .marked .ensures, c .before .before .before .before .before .before .if1 .left, ← c .before .before .before .before .before .marked2 .ensures, c .before .before .before .before .if2 .left, eq-eqb _ _ (c .before .before .before .if3 .left), eq-eqb _ _ (c .before .before .if4 .left), eq-eqb _ _ (c .if5 .taken)))
 
-cast-if6 : tie.Need-cast-if6
-cast-if6 c = search needs
-
 mul-if6 : tie.Need-mul-if6
-mul-if6 c = search needs
-
-cast-if6-2 : tie.Need-cast-if6-2
-cast-if6-2 c = record { fits = mask-under (getD (c .before .before .before .before .before .before .before .before .before .args .t1) 2 0) 131071 (2 ^ 64) (lit< tt) }
+mul-if6 c = record { fits = curbe-fits (c .before .before .before .before .before .before .before .before .before .args .st .«vfe_dword4») }
 
 returns-6 : tie.Need-returns-6
 returns-6 c = rw curbe-can (simp (coded, ← c .before .before .before .before .before .before .before .before .before .marked .ensures, c .before .before .before .before .before .before .before .before .if1 .left, ← c .before .before .before .before .before .before .before .marked2 .ensures, c .before .before .before .before .before .before .if2 .left, eq-eqb _ _ (c .before .before .before .before .before .if3 .left), eq-eqb _ _ (c .before .before .before .before .if4 .left), ne-eqb _ _ (c .before .before .if5 .left), lt-ltb _ _ (c .if6 .taken)))
@@ -71,8 +62,6 @@ curbe-load-spec =
     array-read-if4
     returns-4
     returns-5
-    cast-if6
     mul-if6
-    cast-if6-2
     returns-6
     returns-7)

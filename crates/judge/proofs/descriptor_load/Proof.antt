@@ -1,6 +1,6 @@
 use Rattle.judge.proofs.Verdicts.{descriptor-can}
 use Rattle.laws.proofs.BitRanges.{coded}
-use borrow.Author.Tests.{eq-eqb, le-ltb, lt-ltb, ne-eqb}
+use borrow.Author.Tests.{eq-eqb, le-leb, le-ltb, lt-leb, lt-ltb, ne-eqb}
 use borrow.Author.Needs.{needs}
 use Rattle.judge.proofs.descriptor_load.Statement.{statement}
 use Rattle.judge.proofs.descriptor_load.Tie as tie
@@ -45,10 +45,10 @@ returns-7 : tie.Need-returns-7
 returns-7 c = rw descriptor-can (simp (coded, ← c .before .before .before .before .before .before .before .before .before .marked .ensures, c .before .before .before .before .before .before .before .before .if1 .left, ← c .before .before .before .before .before .before .before .marked2 .ensures, c .before .before .before .before .before .before .if2 .left, eq-eqb _ _ (c .before .before .before .before .before .if3 .left), le-ltb _ _ (c .before .before .before .before .if4 .left), le-ltb _ _ (c .before .before .before .if5 .left), eq-eqb _ _ (c .before .before .if6 .left), eq-eqb _ _ (c .if7 .taken)))
 
 returns-8 : tie.Need-returns-8
-returns-8 c = rw descriptor-can (simp (coded, ← c .before .before .before .before .before .before .before .before .before .before .before .marked .ensures, c .before .before .before .before .before .before .before .before .before .before .if1 .left, ← c .before .before .before .before .before .before .before .before .before .marked2 .ensures, c .before .before .before .before .before .before .before .before .if2 .left, eq-eqb _ _ (c .before .before .before .before .before .before .before .if3 .left), le-ltb _ _ (c .before .before .before .before .before .before .if4 .left), le-ltb _ _ (c .before .before .before .before .before .if5 .left), eq-eqb _ _ (c .before .before .before .before .if6 .left), ne-eqb _ _ (c .before .before .if7 .left), ne-eqb _ _ (c .if8 .taken)))
+returns-8 c = rw descriptor-can (simp (coded, ← c .before .before .before .before .before .before .before .before .before .before .before .marked .ensures, c .before .before .before .before .before .before .before .before .before .before .if1 .left, ← c .before .before .before .before .before .before .before .before .before .marked2 .ensures, c .before .before .before .before .before .before .before .before .if2 .left, eq-eqb _ _ (c .before .before .before .before .before .before .before .if3 .left), le-ltb _ _ (c .before .before .before .before .before .before .if4 .left), le-ltb _ _ (c .before .before .before .before .before .if5 .left), eq-eqb _ _ (c .before .before .before .before .if6 .left), ne-eqb _ _ (c .before .before .if7 .left), le-leb _ _ (c .if8 .taken)))
 
 returns-9 : tie.Need-returns-9
-returns-9 c = rw descriptor-can (simp (coded, ← c .before .before .before .before .before .before .before .before .before .before .before .marked .ensures, c .before .before .before .before .before .before .before .before .before .before .if1 .left, ← c .before .before .before .before .before .before .before .before .before .marked2 .ensures, c .before .before .before .before .before .before .before .before .if2 .left, eq-eqb _ _ (c .before .before .before .before .before .before .before .if3 .left), le-ltb _ _ (c .before .before .before .before .before .before .if4 .left), le-ltb _ _ (c .before .before .before .before .before .if5 .left), eq-eqb _ _ (c .before .before .before .before .if6 .left), ne-eqb _ _ (c .before .before .if7 .left), eq-eqb _ _ (c .if8 .left)))
+returns-9 c = rw descriptor-can (simp (coded, ← c .before .before .before .before .before .before .before .before .before .before .before .marked .ensures, c .before .before .before .before .before .before .before .before .before .before .if1 .left, ← c .before .before .before .before .before .before .before .before .before .marked2 .ensures, c .before .before .before .before .before .before .before .before .if2 .left, eq-eqb _ _ (c .before .before .before .before .before .before .before .if3 .left), le-ltb _ _ (c .before .before .before .before .before .before .if4 .left), le-ltb _ _ (c .before .before .before .before .before .if5 .left), eq-eqb _ _ (c .before .before .before .before .if6 .left), ne-eqb _ _ (c .before .before .if7 .left), lt-leb _ _ (c .if8 .left)))
 
 pub descriptor-load-spec : {M : Type 1} → statement M
 descriptor-load-spec =

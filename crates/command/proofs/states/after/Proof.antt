@@ -18,6 +18,18 @@ array-read-next c = search needs
 after-vfe-requires : tie.Need-after-vfe-requires
 after-vfe-requires c κs = search needs
 
+with-media-requires : tie.Need-with-media-requires
+with-media-requires c κs = search needs
+
+with-media-requires-2 : tie.Need-with-media-requires-2
+with-media-requires-2 c κs = search needs
+
+state-flushed-requires : tie.Need-state-flushed-requires
+state-flushed-requires c κs = search needs
+
+with-media-requires-3 : tie.Need-with-media-requires-3
+with-media-requires-3 c κs = search needs
+
 returns : tie.Need-returns
 unfolding stateAfter
 returns c = simp (coded, c .before .match .keys1)
@@ -31,19 +43,19 @@ returns-3 c = after-kind _ 3 _ _ _ (c .before .match .keys3) (c .after-vfe .ensu
 
 returns-4 : tie.Need-returns-4
 unfolding stateAfter
-returns-4 c = simp (coded, c .match .keys4)
+returns-4 c = simp (coded, c .before .match .keys4, c .with-media .ensures)
 
 returns-5 : tie.Need-returns-5
 unfolding stateAfter
-returns-5 c = simp (coded, c .match .keys5)
+returns-5 c = simp (coded, c .before .match .keys5, c .with-media2 .ensures)
 
 returns-6 : tie.Need-returns-6
 unfolding stateAfter
-returns-6 c = simp (coded, c .match .keys6)
+returns-6 c = simp (coded, c .before .match .keys6, c .state-flushed .ensures)
 
 returns-7 : tie.Need-returns-7
 unfolding stateAfter
-returns-7 c = simp (coded, c .match .keys7)
+returns-7 c = simp (coded, c .before .match .keys7, c .with-media3 .ensures)
 
 returns-8 : tie.Need-returns-8
 unfolding stateAfter
@@ -56,7 +68,11 @@ after-spec =
     add-next
     add-next-2
     after-vfe-requires
+    with-media-requires
     array-read-next
+    with-media-requires-2
+    state-flushed-requires
+    with-media-requires-3
     returns
     returns-2
     returns-3
