@@ -1,5 +1,5 @@
 //! The batch check: sections "The command words" and "Why a batch is turned
-//! away" of document 01, for both chips of document 02.
+//! away" of document 01, for both chips and with the VFE's order of document 02.
 //!
 //! The first pass judges and writes nothing; the second decodes what the first
 //! accepted. Inline data is stepped over, and nothing after END is read. Each chip
@@ -182,21 +182,23 @@ fn refuse<T>(number: u64, place: usize) -> Result<T, Refusal> {
 }
 
 /// What rules 8 and 9 remember of the commands before.
-#[derive(Default)]
-struct State {
-    /// A VFE stands earlier.
-    vfe: bool,
-    /// A command of kind 3, 4, 5, 7 or 8 stands since the last MI_FLUSH or the start.
-    in_use: bool,
-    /// An OBJECT stands since the last MI_FLUSH or state flush.
-    objects_stand: bool,
+struct State<'a, W> {
+    /// The VFE in force: the last one.
+    vfe: Option<&'a [W; 8]>,
+    /// What stands in a later command's way: bits below.
+    stands: u8,
     /// OBJECTs so far.
     objects: usize,
     /// The count last loaded; a VFE keeps it.
     descriptors: u32,
-    /// 32 x CURBE size in force.
-    curbe_bytes: u32,
 }
+
+/// A command of kind 3, 4, 5, 7 or 8 stands since the last MI_FLUSH or the start.
+const SINCE_FLUSH: u8 = 0b001;
+/// One stands since the last MI_FLUSH or state flush or the start.
+const SINCE_EITHER: u8 = 0b011;
+/// An OBJECT stands since then.
+const OBJECTS: u8 = 0b111;
 
 /// First pass: rules 1 to 9. Writes nothing.
 fn judge<C: Chip, W: Word>(batch: &[W], capacity: u32) -> Result<Accepted, Refusal> {
@@ -227,7 +229,12 @@ fn read<C: Chip, W: Word>(
     capacity: u32,
     mut passed: impl FnMut(Range<usize>),
 ) -> Result<Accepted, Refusal> {
-    let mut state = State::default();
+    let mut state = State {
+        vfe: None,
+        stands: 0,
+        objects: 0,
+        descriptors: 0,
+    };
     let mut rest = batch;
     let mut commands = 0;
     loop {
@@ -256,7 +263,7 @@ fn read<C: Chip, W: Word>(
             STATE_FLUSH => {
                 let (command, next) = fixed::<W, 2>(rest, header, place)?;
                 must_be_zero(command, &C::MASKS.state_flush, place)?;
-                state.objects_stand = false;
+                state.stands &= SINCE_FLUSH;
                 next
             }
             GATEWAY if C::HAS_GATEWAY => {
@@ -275,8 +282,7 @@ fn read<C: Chip, W: Word>(
                     &next[more..]
                 }
                 FLUSH => {
-                    state.in_use = false;
-                    state.objects_stand = false;
+                    state.stands = 0;
                     next
                 }
                 END => {
@@ -298,7 +304,7 @@ fn object<'a, C: Chip, W: Word>(
     rest: &'a [W],
     header: u32,
     place: usize,
-    state: &mut State,
+    state: &mut State<'a, W>,
 ) -> Judged<'a, W> {
     let total = length_field(header) + 2;
     if total < OBJECT_FIXED {
@@ -313,8 +319,7 @@ fn object<'a, C: Chip, W: Word>(
     if command[1].get() & 0x3f >= state.descriptors {
         return refuse(8, place);
     }
-    state.in_use = true;
-    state.objects_stand = true;
+    state.stands = OBJECTS;
     state.objects += 1;
     Ok(next)
 }
@@ -323,32 +328,52 @@ fn vfe<'a, C: Chip, W: Word>(
     rest: &'a [W],
     header: u32,
     place: usize,
-    state: &mut State,
+    state: &mut State<'a, W>,
     capacity: u32,
 ) -> Judged<'a, W> {
     let (command, next) = fixed::<W, 8>(rest, header, place)?;
     must_be_zero(command, &C::MASKS.vfe, place)?;
-    if state.in_use {
+    if !may_change(command, state) {
         return refuse(8, place);
     }
     let entries = command[2].get() >> 8 & 0xff;
     let entry_size = command[4].get() >> 16;
-    let curbe_size = command[4].get() & 0xffff;
     // At most 255 x 65,535 + 65,535, so 32 bits hold it.
-    if entries * entry_size + curbe_size > capacity {
+    if entries * entry_size + curbe_size(command) > capacity {
         return refuse(9, place);
     }
-    state.vfe = true;
-    state.in_use = true;
-    state.curbe_bytes = 32 * curbe_size;
+    state.vfe = Some(command);
+    state.stands = SINCE_EITHER;
     Ok(next)
+}
+
+fn curbe_size<W: Word>(vfe: &[W; 8]) -> u32 {
+    vfe[4].get() & 0xffff
+}
+
+/// Rule 8 for a VFE. Where it changes the scoreboard alone, a state flush is enough.
+fn may_change<W: Word>(command: &[W; 8], state: &State<W>) -> bool {
+    match (state.stands, state.vfe) {
+        (0, _) => true,
+        (SINCE_FLUSH, Some(vfe)) => only_scoreboard(command, vfe),
+        _ => false,
+    }
+}
+
+/// Whether a VFE differs from the one in force in scoreboard enable, type, mask and deltas
+/// at most. They fill dwords 5 to 7, but for bits that rule 6 has found zero in both.
+fn only_scoreboard<W: Word>(command: &[W; 8], in_force: &[W; 8]) -> bool {
+    let others = (1..5).fold(0, |joined, dword| {
+        joined | command[dword].get() ^ in_force[dword].get()
+    });
+    others == 0
 }
 
 fn curbe<'a, C: Chip, W: Word>(
     rest: &'a [W],
     header: u32,
     place: usize,
-    state: &mut State,
+    state: &mut State<'a, W>,
 ) -> Judged<'a, W> {
     let (command, next) = fixed::<W, 4>(rest, header, place)?;
     must_be_zero(command, &C::MASKS.curbe, place)?;
@@ -359,13 +384,13 @@ fn curbe<'a, C: Chip, W: Word>(
     if !command[3].get().is_multiple_of(32) {
         return refuse(7, place + 3);
     }
-    if !state.vfe {
+    let Some(vfe) = state.vfe else {
         return refuse(8, place);
-    }
-    if length > state.curbe_bytes {
+    };
+    if length > 32 * curbe_size(vfe) {
         return refuse(9, place);
     }
-    state.in_use = true;
+    state.stands |= SINCE_EITHER;
     Ok(next)
 }
 
@@ -373,7 +398,7 @@ fn descriptor<'a, C: Chip, W: Word>(
     rest: &'a [W],
     header: u32,
     place: usize,
-    state: &mut State,
+    state: &mut State<'a, W>,
 ) -> Judged<'a, W> {
     let (command, next) = fixed::<W, 4>(rest, header, place)?;
     must_be_zero(command, &C::MASKS.descriptor, place)?;
@@ -384,10 +409,10 @@ fn descriptor<'a, C: Chip, W: Word>(
     if !command[3].get().is_multiple_of(32) {
         return refuse(7, place + 3);
     }
-    if !state.vfe || state.objects_stand {
+    if state.vfe.is_none() || state.stands == OBJECTS {
         return refuse(8, place);
     }
-    state.in_use = true;
+    state.stands = SINCE_EITHER;
     state.descriptors = length / 32;
     Ok(next)
 }
@@ -396,14 +421,14 @@ fn gateway<'a, C: Chip, W: Word>(
     rest: &'a [W],
     header: u32,
     place: usize,
-    state: &mut State,
+    state: &mut State<'a, W>,
 ) -> Judged<'a, W> {
     let (command, next) = fixed::<W, 2>(rest, header, place)?;
     must_be_zero(command, &C::MASKS.gateway, place)?;
-    if !state.vfe {
+    if state.vfe.is_none() {
         return refuse(8, place);
     }
-    state.in_use = true;
+    state.stands |= SINCE_EITHER;
     Ok(next)
 }
 

@@ -6,6 +6,7 @@ use std::fmt::Write;
 
 pub mod batch;
 mod chips;
+mod commands;
 pub mod fuzz;
 pub mod in_play;
 pub mod isolation;
@@ -13,6 +14,7 @@ pub mod listing;
 mod masks;
 pub mod order;
 pub mod replay;
+mod scoreboards;
 
 /// How many disagreements are printed in full.
 const PRINTED: usize = 3;

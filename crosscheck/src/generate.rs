@@ -16,7 +16,7 @@ pub fn bytes(dwords: &[u32]) -> Vec<u8> {
 }
 
 /// Whole dwords, and the bytes left over.
-fn dwords(bytes: &[u8]) -> (Vec<u32>, Vec<u8>) {
+pub fn dwords(bytes: &[u8]) -> (Vec<u32>, Vec<u8>) {
     let (dwords, tail) = bytes.as_chunks::<4>();
     let dwords = dwords.iter().map(|&dword| u32::from_le_bytes(dword));
     (dwords.collect(), tail.to_vec())

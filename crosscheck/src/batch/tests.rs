@@ -75,6 +75,10 @@ fn sequence(commands: &[&[u32]]) -> Vec<u32> {
 }
 
 const A_VFE: &[u32] = &[0x7000_0006, 0, 0x0007_0100, 0, 0x0002_0004, 0, 0, 0];
+/// It differs in the thread field.
+const ANOTHER_VFE: &[u32] = &[0x7000_0006, 0, 0x0006_0100, 0, 0x0002_0004, 0, 0, 0];
+/// It differs in a delta.
+const A_SCOREBOARD: &[u32] = &[0x7000_0006, 0, 0x0007_0100, 0, 0x0002_0004, 0, 0x10, 0];
 const A_CURBE: &[u32] = &[0x7001_0002, 0, 128, 0];
 const A_LOAD: &[u32] = &[0x7002_0002, 0, 0x20, 0x1000];
 const A_STATE_FLUSH: &[u32] = &[0x7004_0000, 0];
@@ -375,7 +379,8 @@ fn refusal_8_order() {
     for command in [A_CURBE, A_LOAD, AN_OBJECT] {
         assert_eq!(answer(&sequence(&[A_FLUSH, command, THE_END])), (8, 1));
     }
-    // A VFE after kind 3, 4, 5 or 7 needs an MI_FLUSH between; a state flush is not enough.
+    // A VFE after kind 3, 4, 5 or 7 needs an MI_FLUSH between; a state flush is not enough
+    // where more than the scoreboard changes.
     let before: [&[u32]; 4] = [
         A_VFE,
         &sequence(&[A_VFE, A_CURBE]),
@@ -385,9 +390,9 @@ fn refusal_8_order() {
     for before in before {
         let place = before.len() as u64;
         assert_eq!(answer(&sequence(&[before, A_VFE, THE_END])), (8, place));
-        let flushed = [before, A_STATE_FLUSH, A_VFE, THE_END];
+        let flushed = [before, A_STATE_FLUSH, ANOTHER_VFE, THE_END];
         assert_eq!(answer(&sequence(&flushed)), (8, place + 2));
-        let flushed = [before, A_FLUSH, A_STATE_FLUSH, A_VFE, THE_END];
+        let flushed = [before, A_FLUSH, A_STATE_FLUSH, ANOTHER_VFE, THE_END];
         assert_eq!(answer(&sequence(&flushed)), (0, 0));
     }
     // A load after an OBJECT needs kind 1 or 6 between.
@@ -412,12 +417,15 @@ fn refusal_8_order_of_gateway_states() {
     assert_eq!(answer(&[A_FLUSH, A_GATEWAY, THE_END]), (8, 1));
     // A VFE stays in force across MI_FLUSH.
     assert_eq!(answer(&[A_VFE, A_FLUSH, A_GATEWAY, THE_END]), (0, 0));
-    // It stands in a later VFE's way; a state flush does not help.
+    // It stands in a later VFE's way; a state flush helps a scoreboard's change alone.
     let before = [A_VFE, A_FLUSH, A_GATEWAY];
     let before = sequence(&before);
     assert_eq!(answer(&[&before, A_VFE, THE_END]), (8, 11));
-    assert_eq!(answer(&[&before, A_STATE_FLUSH, A_VFE, THE_END]), (8, 13));
-    assert_eq!(answer(&[&before, A_FLUSH, A_VFE, THE_END]), (0, 0));
+    let other = [&before, A_STATE_FLUSH, ANOTHER_VFE, THE_END];
+    assert_eq!(answer(&other), (8, 13));
+    let scoreboard = [&before, A_STATE_FLUSH, A_SCOREBOARD, THE_END];
+    assert_eq!(answer(&scoreboard), (0, 0));
+    assert_eq!(answer(&[&before, A_FLUSH, ANOTHER_VFE, THE_END]), (0, 0));
     let two = sequence(&[&before, A_GATEWAY]);
     assert_eq!(answer(&[&two, A_VFE, THE_END]), (8, 13));
     // It has no part in a descriptor load's rule.
@@ -430,6 +438,159 @@ fn refusal_8_order_of_gateway_states() {
     assert_eq!(answer(&[&[0x7003_0001], THE_END]), (4, 0));
     assert_eq!(answer(&[&[0x7003_0000]]), (5, 0));
     assert_eq!(answer(&[&[0x7003_0000, u32::MAX], THE_END]), (6, 1));
+}
+
+/// Scoreboard enable, type and mask, then the deltas (000, lines 679 to 691).
+const SCOREBOARD: [u32; 8] = [0, 0, 0, 0, 0, 0xc000_00ff, u32::MAX, u32::MAX];
+
+/// After a state flush a VFE may differ from the one in force in its scoreboard alone. A
+/// bit that no row of the manual names counts as any other.
+#[test]
+fn refusal_8_every_bit_of_a_vfe_after_a_state_flush() {
+    let every_field = [
+        0x7000_0006,
+        0x1234_5400,
+        0x0007_01e0,
+        0xabcd_ef00,
+        0x0002_0004,
+        0x8000_0055,
+        0x1f2e_3d4c,
+        0x5b6a_7988,
+    ];
+    for chip in CHIPS {
+        let masks = crate::masks::of(chip)[3];
+        assert_eq!(masks[5] | SCOREBOARD[5], u32::MAX);
+        for first in [A_VFE, &every_field] {
+            for (dword, bit) in (1..8).flat_map(|dword| (0..32).map(move |bit| (dword, bit))) {
+                let mut second = first.to_vec();
+                second[dword] ^= 1 << bit;
+                let batch = sequence(&[first, A_STATE_FLUSH, &second, THE_END]);
+                let expected = if masks[dword] >> bit & 1 == 1 {
+                    (6, 10 + dword as u64)
+                } else if SCOREBOARD[dword] >> bit & 1 == 1 {
+                    (0, 0)
+                } else {
+                    (8, 10)
+                };
+                let answer = answer_on(chip, &batch);
+                assert_eq!(answer, expected, "chip {chip}, dword {dword}, bit {bit}");
+            }
+        }
+    }
+}
+
+/// No command of kind 3, 4, 5, 7 or 8 stands since the last kind 1 or 6.
+#[test]
+fn refusal_8_what_stands_before_a_scoreboards_change() {
+    for chip in CHIPS {
+        let answer = |commands: &[&[u32]]| answer_on(chip, &sequence(commands));
+        let mut standing = vec![A_VFE, A_CURBE, A_LOAD, AN_OBJECT];
+        if chip == 6 {
+            standing.push(A_GATEWAY);
+        }
+        for &command in &standing {
+            // After a descriptor load; the command alone since the MI_FLUSH.
+            let before = sequence(&[A_VFE, A_LOAD, A_FLUSH, command]);
+            let place = before.len() as u64;
+            for vfe in [A_VFE, A_SCOREBOARD] {
+                assert_eq!(answer(&[&before, vfe, THE_END]), (8, place));
+                assert_eq!(answer(&[&before, &[NOOP], vfe, THE_END]), (8, place + 1));
+                for flushes in [
+                    &[A_STATE_FLUSH][..],
+                    &[A_STATE_FLUSH, A_STATE_FLUSH],
+                    &[&[NOOP], A_STATE_FLUSH, &[NOOP]],
+                    &[A_FLUSH],
+                    &[A_FLUSH, A_STATE_FLUSH],
+                    &[A_STATE_FLUSH, A_FLUSH],
+                ] {
+                    let flushes = sequence(flushes);
+                    assert_eq!(answer(&[&before, &flushes, vfe, THE_END]), (0, 0));
+                }
+                // It stands again, or another does.
+                for &again in standing.iter().filter(|&&again| again != A_VFE) {
+                    let flushed = sequence(&[&before, A_STATE_FLUSH, again]);
+                    let place = flushed.len() as u64;
+                    assert_eq!(answer(&[&flushed, vfe, THE_END]), (8, place));
+                    let flushed = [&flushed, A_STATE_FLUSH, vfe, THE_END];
+                    assert_eq!(answer(&flushed), (0, 0));
+                }
+            }
+        }
+    }
+}
+
+/// The VFE in force is the last one, however it came, and MI_FLUSH leaves it in force.
+#[test]
+fn refusal_8_the_vfe_in_force() {
+    let answer = |commands: &[&[u32]]| answer(&sequence(&[commands, &[THE_END]].concat()));
+    let state_flush = A_STATE_FLUSH;
+    // It stands itself.
+    let twice = [A_VFE, state_flush, A_SCOREBOARD];
+    assert_eq!(answer(&[&twice[..], &[A_SCOREBOARD]].concat()), (8, 18));
+    // A second change, the same again, and a change back.
+    for third in [A_VFE, A_SCOREBOARD] {
+        assert_eq!(
+            answer(&[&twice[..], &[state_flush, third]].concat()),
+            (0, 0)
+        );
+    }
+    let other = [&twice[..], &[state_flush, ANOTHER_VFE]].concat();
+    assert_eq!(answer(&other), (8, 20));
+    // After an MI_FLUSH another VFE is in force, and the first one is not.
+    let changed = [A_VFE, A_FLUSH, ANOTHER_VFE, state_flush];
+    assert_eq!(answer(&[&changed[..], &[ANOTHER_VFE]].concat()), (0, 0));
+    for third in [A_VFE, A_SCOREBOARD] {
+        assert_eq!(answer(&[&changed[..], &[third]].concat()), (8, 19));
+    }
+    // The first one stays in force across MI_FLUSH.
+    let kept = [A_VFE, A_FLUSH, A_CURBE, state_flush];
+    assert_eq!(answer(&[&kept[..], &[A_SCOREBOARD]].concat()), (0, 0));
+    assert_eq!(answer(&[&kept[..], &[ANOTHER_VFE]].concat()), (8, 15));
+    // The first VFE has none before it.
+    assert_eq!(answer(&[state_flush, A_VFE]), (0, 0));
+    assert_eq!(answer(&[state_flush, A_VFE, A_SCOREBOARD]), (8, 10));
+}
+
+/// 8 comes before 9; what passes 8 by its scoreboard asks for no other rows.
+#[test]
+fn refusal_9_after_a_state_flush() {
+    let mut larger = A_VFE.to_vec();
+    larger[4] += 1;
+    let changed = sequence(&[A_VFE, A_STATE_FLUSH, A_SCOREBOARD, THE_END]);
+    assert_eq!(run(&changed, 6, 64).0, Answer::accepted(4, 19));
+    assert_eq!(run(&changed, 5, 64).0, Answer::refused(9, 0));
+    let refused = sequence(&[A_VFE, A_STATE_FLUSH, &larger, THE_END]);
+    assert_eq!(run(&refused, 6, 64).0, Answer::refused(8, 10));
+    let refused = sequence(&[A_VFE, A_FLUSH, &larger, THE_END]);
+    assert_eq!(run(&refused, 6, 64).0, Answer::refused(9, 9));
+    // The CURBE size in force stays as well.
+    let curbe = |length| {
+        let load = [0x7001_0002, 0, length, 0];
+        answer(&sequence(&[&changed[..18], &load, THE_END]))
+    };
+    assert_eq!(curbe(128), (0, 0));
+    assert_eq!(curbe(160), (9, 18));
+}
+
+/// Each OBJECT names its own VFE.
+#[test]
+fn records_of_a_scoreboards_change() {
+    let batch = sequence(&[
+        A_VFE,
+        A_LOAD,
+        AN_OBJECT,
+        A_STATE_FLUSH,
+        A_SCOREBOARD,
+        AN_OBJECT,
+        THE_END,
+    ]);
+    let (answer, records) = run(&batch, 6, 7 * RECORD);
+    assert_eq!(answer, Answer::accepted(7, 35));
+    let record = |at: usize| &records[RECORD * at..][..RECORD];
+    assert_eq!(record(4)[..3], [3, 20, 8]);
+    assert_eq!([record(0)[9], record(4)[9]], [0, 0x10]);
+    assert_eq!(record(2)[14..], [0, 0]);
+    assert_eq!(record(5)[14..], [4, 1]);
 }
 
 /// The manual's sequence for barrier groups (000, lines 210 to 231), without the commands

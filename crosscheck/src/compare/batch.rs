@@ -2,6 +2,7 @@
 
 use super::chips::{may_differ, Chips, OnBoth};
 use super::masks::Met;
+use super::scoreboards::{changes, Scoreboards};
 use super::{print_input, Faults, Plan, Report};
 use crate::batch::{self, known, Answer, END, RECORD};
 use crate::ffi;
@@ -10,9 +11,11 @@ use crate::guard::{Cell, Guarded};
 use crate::random::Random;
 
 pub fn run(plan: &Plan, report: &mut Report) {
-    let met = each(plan, report, &sweep(plan.seed), random_case);
+    let tallies = each(plan, report, &sweep(plan.seed), random_case);
     if plan.only.is_none() {
-        met.print(report);
+        tallies.met.print(report);
+        tallies.dword_changes.print(report);
+        tallies.byte_changes.print(report);
         for chip in CHIPS.into_iter().chain(NO_CHIPS) {
             report.case(nothing(chip));
         }
@@ -25,12 +28,14 @@ pub(super) fn each(
     report: &mut Report,
     fixed: &[Case],
     random_case: fn(&mut Random) -> Case,
-) -> Met {
+) -> Tallies {
     let mut tallies = Tallies {
         dwords: Chips::new("batch check over dwords", 0..=10),
         bytes: Chips::new("batch check over bytes", (0..=10).chain([17])),
         on_both: OnBoth::default(),
         met: Met::default(),
+        dword_changes: Scoreboards::new("batch check over dwords"),
+        byte_changes: Scoreboards::new("batch check over bytes"),
     };
     plan.each(fixed, random_case, |index, case, random| {
         let outcome = compare(case, random, &mut tallies);
@@ -41,15 +46,17 @@ pub(super) fn each(
         tallies.bytes.print(report);
         tallies.on_both.print(report);
     }
-    tallies.met
+    tallies
 }
 
 /// What the cases reached.
-struct Tallies {
+pub(super) struct Tallies {
     dwords: Chips,
     bytes: Chips,
     on_both: OnBoth,
     met: Met,
+    dword_changes: Scoreboards,
+    byte_changes: Scoreboards,
 }
 
 /// Null pointers at length 0: an empty batch, which is used up at once.
@@ -85,6 +92,8 @@ fn compare(case: &Case, random: &mut Random, tallies: &mut Tallies) -> Result<()
         6 => tallies.met.count(case, answer.place as usize),
         _ => {}
     }
+    let changes = changes(&case.batch, answer.number, answer.place);
+    tallies.dword_changes.count(case.chip, &changes);
 
     let batch = Guarded::new(random, &case.bytes()).followed_by(&END.to_le_bytes());
     let records = Guarded::filled(random, case.record_bytes());
@@ -106,6 +115,9 @@ fn compare(case: &Case, random: &mut Random, tallies: &mut Tallies) -> Result<()
         return Err(format!(
             "the entries disagree: dwords {answer:?}, bytes {over_bytes:?}"
         ));
+    }
+    if over_bytes == answer {
+        tallies.byte_changes.count(case.chip, &changes);
     }
     Ok(())
 }

@@ -5,8 +5,10 @@
 
 use super::chips::Chips;
 use super::order::Lent;
+use super::scoreboards::{self, CHANGED};
 use super::{print_input, Faults, Plan, Report};
 use crate::ffi;
+use crate::generate::batch;
 use crate::generate::isolation::{random_case, sweep, Pair};
 use crate::guard::Cell;
 use crate::random::Random;
@@ -64,29 +66,38 @@ impl Tallies {
     fn new() -> Self {
         let of_run = (0..=10).chain(20..=25);
         Tallies {
-            batch_dwords: Chips::new("batch check over dwords, differing pairs", 0..=10),
+            batch_dwords: Chips::new("batch check over dwords, differing pairs", 0..=10)
+                .and(0, CHANGED),
             batch_bytes: Chips::new(
                 "batch check over bytes, differing pairs",
                 (0..=10).chain([17]),
-            ),
-            order_dwords: Chips::new("order check over dwords, differing pairs", of_run.clone()),
+            )
+            .and(0, CHANGED),
+            order_dwords: Chips::new("order check over dwords, differing pairs", of_run.clone())
+                .and(0, CHANGED),
             order_bytes: Chips::new("order check over bytes, differing pairs", of_run)
+                .and(0, CHANGED)
                 .and(17, "of the batch")
                 .and(17, "of the run"),
         }
     }
 
     fn count(&mut self, pair: &Pair, numbers: Numbers) {
-        let chip = pair.first.batch.chip;
-        self.batch_dwords.of(chip).count(numbers.batch_dwords);
-        self.batch_bytes.of(chip).count(numbers.batch_bytes);
-        self.order_dwords.of(chip).count(numbers.order_dwords);
+        let batch::Case { chip, batch, .. } = &pair.first.batch;
+        let row = |number| scoreboards::row(batch, number);
+        for (tallies, number) in [
+            (&mut self.batch_dwords, numbers.batch_dwords),
+            (&mut self.batch_bytes, numbers.batch_bytes),
+            (&mut self.order_dwords, numbers.order_dwords),
+        ] {
+            tallies.of(*chip).count_of(number, row(number));
+        }
         let of = match (numbers.order_bytes, pair.first.batch.tail.len()) {
             (17, 0) => "of the run",
             (17, _) => "of the batch",
-            _ => "",
+            (number, _) => row(number),
         };
-        let tally = self.order_bytes.of(chip);
+        let tally = self.order_bytes.of(*chip);
         tally.count_of(numbers.order_bytes, of);
     }
 

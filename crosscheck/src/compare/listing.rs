@@ -3,7 +3,9 @@
 //! their isolation: they print the same for an input that differs only in inline data
 //! passed.
 
+use super::scoreboards::{self, CHANGED};
 use super::{Plan, Report, Tally};
+use crate::generate::dwords;
 use crate::generate::isolation::other_input;
 use crate::generate::listing::{random_case, sweep};
 use crate::listing::{listing, NAMES};
@@ -32,20 +34,24 @@ impl Program {
         // The program lends room for every record, so that 10 never occurs.
         let reachable = || (0..=9).chain([17]);
         let name = format!("listing program, Gen{chip}");
-        let mut numbers = Tally::new(name.clone(), reachable());
+        let mut numbers = Tally::new(name.clone(), reachable()).and(0, CHANGED);
         let mut kinds = Tally::new(format!("commands listed, Gen{chip}"), []);
         for (kind, name) in (0..).zip(names(chip)) {
             kinds = kinds.and(kind, name);
         }
-        let mut pairs = Tally::new(format!("{name}, differing pairs"), reachable());
+        let mut pairs = Tally::new(format!("{name}, differing pairs"), reachable()).and(0, CHANGED);
         let fixed = sweep(plan.seed, chip);
         let random_case = |random: &mut _| random_case(random, chip);
         plan.each(&fixed, random_case, |index, input, random| {
             let outcome = self.compare(input).and_then(|text| {
-                count(&text, &mut numbers, &mut kinds);
+                count_names(&text, &mut kinds);
+                let number = number(&text);
+                let (batch, _) = dwords(input);
+                let row = scoreboards::row(&batch, number);
+                numbers.count_of(number, row);
                 let other = other_input(random, chip, input);
                 if other != *input {
-                    pairs.count(number(&text));
+                    pairs.count_of(number, row);
                     self.alike(&text, &other)?;
                 }
                 Ok(())
@@ -130,9 +136,8 @@ fn output(program: &OsString, input: &[u8]) -> std::io::Result<Output> {
     child.wait_with_output()
 }
 
-/// Counts the number answered and the names listed.
-fn count(text: &str, numbers: &mut Tally, kinds: &mut Tally) {
-    numbers.count(number(text));
+/// Counts the names listed.
+fn count_names(text: &str, kinds: &mut Tally) {
     let names = text.lines().filter_map(|line| line.split(' ').nth(1));
     for name in names {
         if let Some(kind) = NAMES.iter().position(|&known| known == name) {

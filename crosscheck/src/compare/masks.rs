@@ -1,7 +1,7 @@
 //! Which must-be-zero bits were met.
 
+use super::commands::{commands, Command};
 use super::Report;
-use crate::batch::{CURBE, DESCRIPTOR, GATEWAY, OBJECT, STATE_FLUSH, VFE};
 use crate::generate::batch::{Case, CHIPS};
 use crate::masks::{self, Masks, KINDS};
 
@@ -43,25 +43,8 @@ impl Met {
 /// The kind of the command that holds this dword, and which of its dwords it is. All
 /// commands before have passed.
 fn command_at(batch: &[u32], place: usize) -> (usize, usize) {
-    let mut start = 0;
-    loop {
-        let header = batch[start];
-        let kind = match header >> 16 {
-            VFE => 3,
-            CURBE => 4,
-            DESCRIPTOR => 5,
-            STATE_FLUSH => 6,
-            OBJECT => 7,
-            GATEWAY => 8,
-            _ => 0,
-        };
-        let total = match kind {
-            0 => 1,
-            _ => (header & 0xffff) as usize + 2,
-        };
-        if place < start + total {
-            return (kind, place - start);
-        }
-        start += total;
-    }
+    let mut commands = commands(batch);
+    let holds = |command: &Command| place < command.place + command.total;
+    let command = commands.find(holds).expect("a command at the place");
+    (command.kind, place - command.place)
 }

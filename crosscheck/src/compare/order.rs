@@ -2,6 +2,7 @@
 //! bytes.
 
 use super::chips::{may_differ, Chips, OnBoth};
+use super::scoreboards::{changes, deciding, Scoreboards};
 use super::{print_input, Faults, Plan, Report};
 use crate::batch::{self, known, END, RECORD};
 use crate::ffi;
@@ -12,7 +13,11 @@ use crate::order::{self, Answer};
 use crate::random::Random;
 
 pub fn run(plan: &Plan, report: &mut Report) {
-    each(plan, report, &sweep(plan.seed), random_case);
+    let tallies = each(plan, report, &sweep(plan.seed), random_case);
+    if plan.only.is_none() {
+        tallies.dword_changes.print(report);
+        tallies.byte_changes.print(report);
+    }
 }
 
 /// Every case through both entries, then how often each number was reached.
@@ -21,7 +26,7 @@ pub(super) fn each(
     report: &mut Report,
     fixed: &[Case],
     random_case: fn(&mut Random) -> Case,
-) {
+) -> Tallies {
     let numbers = (0..=10).chain(20..=25);
     let mut tallies = Tallies {
         dwords: Chips::new("order check over dwords", numbers.clone()),
@@ -29,6 +34,8 @@ pub(super) fn each(
             .and(17, "of the batch")
             .and(17, "of the run"),
         on_both: OnBoth::default(),
+        dword_changes: Scoreboards::of_runs("order check over dwords"),
+        byte_changes: Scoreboards::of_runs("order check over bytes"),
     };
     plan.each(fixed, random_case, |index, case, random| {
         let outcome = compare(case, random, &mut tallies);
@@ -39,13 +46,16 @@ pub(super) fn each(
         tallies.bytes.print(report);
         tallies.on_both.print(report);
     }
+    tallies
 }
 
 /// What the cases reached.
-struct Tallies {
+pub(super) struct Tallies {
     dwords: Chips,
     bytes: Chips,
     on_both: OnBoth,
+    dword_changes: Scoreboards,
+    byte_changes: Scoreboards,
 }
 
 fn compare(case: &Case, random: &mut Random, tallies: &mut Tallies) -> Result<(), String> {
@@ -63,6 +73,11 @@ fn compare(case: &Case, random: &mut Random, tallies: &mut Tallies) -> Result<()
     if passed(over_dwords) && entry.one_reading(case, &lent, over_dwords, &left)? {
         tallies.on_both.count();
     }
+    let Answer { number, place, .. } = over_dwords;
+    let changes = changes(&case.batch.batch, number, place);
+    let fields = deciding(case, &changes, over_dwords);
+    tallies.dword_changes.count(chip, &changes);
+    tallies.dword_changes.decided(chip, number, &fields);
 
     let lent = Lent::bytes(case, random);
     let entry = Entry {
@@ -87,6 +102,10 @@ fn compare(case: &Case, random: &mut Random, tallies: &mut Tallies) -> Result<()
         ));
     }
     tallies.bytes.of(chip).count_of(over_bytes.number, of);
+    if over_bytes == over_dwords {
+        tallies.byte_changes.count(chip, &changes);
+        tallies.byte_changes.decided(chip, number, &fields);
+    }
     Ok(())
 }
 

@@ -7,6 +7,9 @@ use crate::batch::{
 };
 use crate::masks::{self, KINDS};
 use crate::random::Random;
+use std::ops::Range;
+
+mod vfes;
 
 /// The chips.
 pub const CHIPS: [u32; 2] = [6, 7];
@@ -45,7 +48,7 @@ pub(super) struct Rows(pub u32, pub u32, pub u32);
 /// A command by itself; the kind is kept when its header is damaged.
 #[derive(Clone)]
 pub(super) struct Command {
-    kind: usize,
+    pub(super) kind: usize,
     pub(super) words: Vec<u32>,
 }
 
@@ -64,6 +67,9 @@ const HEADERS: [u32; KINDS] = [
 
 /// Dwords that rules may look at, by kind.
 const FIXED: [usize; KINDS] = [1, 1, 1, 8, 4, 4, 2, 6, 2];
+
+/// The dwords of a VFE's scoreboard.
+const SCOREBOARD: Range<usize> = 5..8;
 
 /// Largest length that 17 bits hold in whole rows, in rows.
 const ROWS_IN_17_BITS: u32 = 4095;
@@ -90,6 +96,25 @@ impl Command {
         let mut command = Command::random(random, chip, 3);
         command.words[2] = command.words[2] & 0xffff_00ff | entries << 8;
         command.words[4] = entry_size << 16 | curbe_size;
+        command
+    }
+
+    /// The VFE with another scoreboard, in some of its dwords, in all or in none.
+    fn other_scoreboard(&self, random: &mut Random, chip: u32) -> Self {
+        let other = Command::random(random, chip, 3);
+        let mut command = self.clone();
+        for dword in SCOREBOARD {
+            if random.one_in(2) {
+                command.set(dword, other.words[dword]);
+            }
+        }
+        command
+    }
+
+    /// One bit of a dword the other way.
+    pub(super) fn flipped(&self, dword: usize, bit: u32) -> Self {
+        let mut command = self.clone();
+        command.set(dword, self.word(dword) ^ 1 << bit);
         command
     }
 
@@ -153,11 +178,13 @@ struct Draft {
     most_rows: u32,
     commands: Vec<Command>,
     dwords: usize,
-    vfe: bool,
+    vfe: Option<Command>,
+    /// A command of kind 3, 4, 5, 7 or 8 stands since the last MI_FLUSH.
     in_use: bool,
+    /// One stands since the last MI_FLUSH or state flush.
+    stands: bool,
     objects: bool,
     descriptors: u32,
-    curbe_size: u32,
 }
 
 /// Which commands a batch is made of.
@@ -200,34 +227,46 @@ impl Draft {
 
     fn push(&mut self, command: Command) {
         match command.kind {
-            1 => (self.in_use, self.objects) = (false, false),
-            3 => {
-                self.vfe = true;
-                self.curbe_size = command.curbe_size();
-            }
+            1 => (self.in_use, self.stands, self.objects) = (false, false, false),
+            3 => self.vfe = Some(command.clone()),
             5 => self.descriptors = command.word(2) / 32,
-            6 => self.objects = false,
+            6 => (self.stands, self.objects) = (false, false),
             7 => self.objects = true,
             _ => {}
         }
-        self.in_use |= matches!(command.kind, 3 | 4 | 5 | 7 | 8);
+        let stands = matches!(command.kind, 3 | 4 | 5 | 7 | 8);
+        self.in_use |= stands;
+        self.stands |= stands;
         self.dwords += command.words.len();
         self.commands.push(command);
     }
 
     /// A command that the order rules allow here, or none.
     fn any(&self, random: &mut Random, room: usize) -> Option<Command> {
-        match random.pick(kinds(self.chip)) {
-            3 if self.in_use => Some(Command::plain(1)),
-            3 => Some(any_vfe(random, self.chip, self.most_rows)),
-            4 if self.vfe => {
-                let most = self.curbe_size.min(ROWS_IN_17_BITS);
+        let kind = match self.in_use && !self.stands && random.one_in(3) {
+            // The state flush was for a VFE.
+            true => 3,
+            false => random.pick(kinds(self.chip)),
+        };
+        match kind {
+            3 if self.stands => {
+                let flush = random.pick(&[1, 6]);
+                Some(Command::random(random, self.chip, flush))
+            }
+            3 => match &self.vfe {
+                Some(vfe) if self.in_use || random.one_in(4) => {
+                    Some(vfe.other_scoreboard(random, self.chip))
+                }
+                _ => Some(any_vfe(random, self.chip, self.most_rows)),
+            },
+            4 => {
+                let most = self.vfe.as_ref()?.curbe_size().min(ROWS_IN_17_BITS);
                 let some = random.below(most as usize + 1) as u32;
                 let rows = random.pick(&[0, most, most, some]);
                 Some(Command::load(4, 32 * rows, random.word() & !31))
             }
             5 if self.objects => Some(Command::random(random, self.chip, 6)),
-            5 if self.vfe => {
+            5 if self.vfe.is_some() => {
                 let some = random.between(1, 64) as u32;
                 let count = random.pick(&[1, 2, 64, some]);
                 Some(Command::load(5, 32 * count, random.word() & !31))
@@ -244,8 +283,8 @@ impl Draft {
                 let inline = inline.min(room.saturating_sub(6));
                 Some(Command::object(random, self.chip, index, inline))
             }
-            8 if self.vfe => Some(Command::random(random, self.chip, 8)),
-            4 | 5 | 7 | 8 => None,
+            8 if self.vfe.is_some() => Some(Command::random(random, self.chip, 8)),
+            5 | 7 | 8 => None,
             kind => Some(Command::random(random, self.chip, kind)),
         }
     }
@@ -254,7 +293,7 @@ impl Draft {
     fn next_object(&self, random: &mut Random, room: usize) -> Command {
         match self.commands.len() {
             0 => any_vfe(random, self.chip, self.most_rows),
-            _ if !self.vfe => Command::plain(0),
+            _ if self.vfe.is_none() => Command::plain(0),
             1 => Command::load(5, 32 * random.between(1, 64) as u32, 0x1000),
             _ if self.descriptors == 0 => Command::plain(0),
             _ => {
@@ -542,6 +581,10 @@ fn damage_at(random: &mut Random, chip: u32, commands: &mut [Command], at: usize
             }
         }
         _ => match kind {
+            3 if random.one_in(2) => {
+                let (dword, bit) = (random.between(1, 7), random.below(32));
+                *command = command.flipped(dword, bit as u32);
+            }
             3 => {
                 let shift = random.pick(&[0, 16]);
                 command.set(4, random.word() >> shift);
@@ -572,7 +615,8 @@ fn damage_at(random: &mut Random, chip: u32, commands: &mut [Command], at: usize
 }
 
 /// The fixed cases: every rule's boundary on both sides, on both chips. The seed only
-/// fills fields that no rule looks at, and chooses buffer tails.
+/// fills fields of which any value will do, and chooses buffer tails and, where not all
+/// are met, bits.
 pub fn sweep(seed: u64) -> Vec<Case> {
     let mut cases = Vec::new();
     for chip in CHIPS {
@@ -587,6 +631,9 @@ pub fn sweep(seed: u64) -> Vec<Case> {
         sweep.slice_ends();
         sweep.alignment();
         sweep.orders();
+        sweep.vfe_orders();
+        sweep.second_vfes();
+        sweep.third_vfes();
         sweep.gateway_states();
         sweep.indices();
         sweep.capacities();
@@ -759,18 +806,18 @@ impl Sweep {
     /// Every sequence of up to five commands before END; and of up to three after others
     /// that let more of them pass (rule 8).
     fn orders(&mut self) {
-        self.sequences(&[], 5);
+        let mut alphabet = self.base();
+        alphabet.pop();
+        self.sequences(&alphabet, &[], 5);
         // VFE; with a flush; descriptor load and OBJECT; with a flush.
         for start in [&[2][..], &[2, 1], &[2, 4, 5], &[2, 4, 5, 1]] {
-            let start: Vec<Command> = start.iter().map(|&at| self.base().remove(at)).collect();
-            self.sequences(&start, 3);
+            let start: Vec<Command> = start.iter().map(|&at| alphabet[at].clone()).collect();
+            self.sequences(&alphabet, &start, 3);
         }
     }
 
     /// Every sequence of up to so many commands between a start and END.
-    fn sequences(&mut self, start: &[Command], most: u32) {
-        let mut alphabet = self.base();
-        alphabet.pop();
+    fn sequences(&mut self, alphabet: &[Command], start: &[Command], most: u32) {
         for length in 0..=most {
             for number in 0..alphabet.len().pow(length) {
                 let mut digits = number;
@@ -790,7 +837,12 @@ impl Sweep {
     fn gateway_states(&mut self) {
         let faults = gateway_faults();
         let vfe = || base(6).swap_remove(2);
-        let ends = [vec![], vec![Command::plain(1), vfe()], vec![vfe()]];
+        let ends = [
+            vec![],
+            vec![Command::plain(1), vfe()],
+            vec![Command::plain(6), vfe()],
+            vec![vfe()],
+        ];
         for count in [1, 2, 3, 4, 9] {
             let sound = Command::random(&mut self.random, 6, 8);
             for at in 0..count {

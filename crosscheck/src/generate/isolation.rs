@@ -174,7 +174,8 @@ fn endings() -> Vec<Vec<u32>> {
     ]
 }
 
-/// Three objects that wait for the one before, with inline data, then `ending`.
+/// Three objects that wait for the one before, with inline data, then `ending`. Before the
+/// last one a state flush lets the VFE change its type.
 fn ended(random: &mut Random, chip: u32, stalling: bool, ending: &[u32], run: &[u32]) -> Case {
     let mut scene = Scene::new(chip);
     let vfe = Vfe {
@@ -185,6 +186,10 @@ fn ended(random: &mut Random, chip: u32, stalling: bool, ending: &[u32], run: &[
     };
     scene.vfe(random, vfe);
     for x in 0..3 {
+        if x == 2 {
+            let stalling = !stalling;
+            scene.scoreboard(random, &[6], Vfe { stalling, ..vfe });
+        }
         scene.filler(random);
         let object = Object {
             own_use: true,

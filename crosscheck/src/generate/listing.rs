@@ -30,7 +30,9 @@ pub fn sweep(seed: u64, chip: u32) -> Vec<Vec<u8>> {
     let mut inputs = limits();
     inputs.extend(cuts(chip));
     inputs.extend(single_bits(chip));
-    inputs.extend(capacities(&mut Random::new(seed), chip));
+    let random = &mut Random::new(seed);
+    inputs.extend(capacities(random, chip));
+    inputs.extend(second_vfes(random, chip));
     // The batch check's own sweep, thinned out.
     let batches = batch::sweep(seed).into_iter();
     let batches = batches.filter(|case| case.chip == chip).step_by(299);
@@ -85,6 +87,23 @@ fn capacities(random: &mut Random, chip: u32) -> Vec<Vec<u8>> {
         for (entry_size, curbe_size) in [(rows, 0), (0, rows), (rows / 2, rows - rows / 2)] {
             let vfe = Command::vfe(random, chip, Rows(1, entry_size, curbe_size));
             inputs.push(bytes(&flat(&[vfe, Command::plain(2)])));
+        }
+    }
+    inputs
+}
+
+/// A VFE, flushes of each sort and the VFE again, with a bit of any dword changed or none.
+fn second_vfes(random: &mut Random, chip: u32) -> Vec<Vec<u8>> {
+    let vfe = Command::vfe(random, chip, Rows(1, 2, 4));
+    let mut seconds = vec![vfe.clone()];
+    seconds.extend((0..8).map(|dword| vfe.flipped(dword, random.below(32) as u32)));
+    let mut inputs = Vec::new();
+    for second in &seconds {
+        for flushes in [&[6][..], &[6, 0, 6], &[1, 6], &[6, 1], &[]] {
+            let mut commands = vec![vfe.clone()];
+            commands.extend(flushes.iter().map(|&kind| Command::plain(kind)));
+            commands.extend([second.clone(), Command::plain(2)]);
+            inputs.push(bytes(&flat(&commands)));
         }
     }
     inputs

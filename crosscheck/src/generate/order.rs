@@ -9,7 +9,7 @@ use crate::random::Random;
 
 mod scene;
 
-pub use scene::{field, field_with_gaps, picture, Layout, Object, Scene, Vfe};
+pub use scene::{field, field_with_gaps, passes, picture, Layout, Object, Scene, Vfe};
 use scene::{Follower, Habit};
 
 /// What is lent to both entries.
@@ -163,6 +163,9 @@ fn long_run(random: &mut Random) -> (Scene, Vec<u32>) {
     let vfe = any_vfe(random);
     scene.vfe(random, vfe);
     for _ in 0..objects {
+        if random.one_in(60) {
+            change_vfe(random, &mut scene);
+        }
         for _ in 0..random.pick(&[0, 0, 0, 1, 20]) {
             scene.filler(random);
         }
@@ -249,8 +252,7 @@ fn any_scene(random: &mut Random) -> Scene {
     let change = random.pick(&[3, 10, 1000]);
     while scene.objects() < objects {
         if random.one_in(change) {
-            let vfe = any_vfe(random);
-            scene.vfe(random, vfe);
+            change_vfe(random, &mut scene);
         }
         if random.one_in(6) {
             scene.filler(random);
@@ -276,6 +278,26 @@ fn any_scene(random: &mut Random) -> Scene {
         scene.object(random, object, inline);
     }
     scene
+}
+
+/// Another VFE, or one that changes all of the last one's scoreboard, a part or nothing.
+fn change_vfe(random: &mut Random, scene: &mut Scene) {
+    let any = any_vfe(random);
+    if random.one_in(3) {
+        return scene.vfe(random, any);
+    }
+    let mut vfe = scene.last_vfe();
+    match random.below(8) {
+        0 => vfe.enable = !vfe.enable,
+        1 => vfe.stalling = !vfe.stalling,
+        2 => vfe.mask = any.mask,
+        3 => vfe.deltas = any.deltas,
+        4 => vfe.deltas[random.below(8)] = any.deltas[0],
+        5 => {}
+        _ => vfe = any,
+    }
+    let flushes = random.pick(&[&[6][..], &[6], &[1], &[6, 0], &[0, 6], &[6, 1]]);
+    scene.scoreboard(random, flushes, vfe);
 }
 
 fn any_vfe(random: &mut Random) -> Vfe {
@@ -309,12 +331,15 @@ fn any_mask(random: &mut Random) -> u8 {
 /// Blocks across and down in the picture.
 pub const PICTURE: (i32, i32) = (45, 36);
 
-/// A picture's run with one event removed, doubled, swapped with the next or changed.
+/// A picture's run, in one pass or in three, with one event removed, doubled, swapped with the next or changed.
 fn broken_picture(random: &mut Random) -> Case {
     let layout = random.pick(&[Layout::Raster, Layout::Waves]);
     let stalling = random.one_in(2);
     let chip = random.pick(&CHIPS);
-    let (scene, mut run) = picture(chip, PICTURE, layout, stalling);
+    let (scene, mut run) = match random.one_in(2) {
+        true => picture(chip, PICTURE, layout, stalling),
+        false => passes(chip, (PICTURE.0, PICTURE.1 / 3), layout, stalling),
+    };
     let at = random.below(run.len() - 1);
     match random.below(5) {
         0 => run.swap(at, at + 1),
@@ -341,6 +366,8 @@ pub fn sweep(seed: u64) -> Vec<Case> {
         sweep.every_delta();
         sweep.masks();
         sweep.users();
+        sweep.scoreboards();
+        sweep.second_vfes();
         sweep.crowd();
         sweep.short_runs();
         sweep.many_commands();
@@ -481,6 +508,64 @@ impl Sweep {
             scene.object(&mut self.random, second, 0);
             for run in [&[2][..], &[0, 2], &[0, 1, 2], &[2, 0], &[2, 3, 0, 1]] {
                 self.add(&scene, run);
+            }
+        }
+    }
+
+    /// Three objects in a row, each at a delta of the next, under a VFE each: the second
+    /// changes the scoreboard alone, the third changes it back. Every choice of enable,
+    /// type, mask and deltas for both, after a state flush and after MI_FLUSH.
+    fn scoreboards(&mut self) {
+        for flags in 0..256 {
+            let vfe = |flags: u32, delta: usize| {
+                let bit = |at: u32| flags >> at & 1 == 1;
+                let mut vfe = free_vfe([(0, -1); 8]);
+                (vfe.enable, vfe.stalling) = (bit(0), bit(1));
+                vfe.mask = if bit(2) { 255 } else { !(1 << delta) };
+                vfe.deltas[delta] = if bit(3) { (-1, 0) } else { (0, -1) };
+                vfe
+            };
+            let vfes = [vfe(flags & 15, 2), vfe(flags >> 4, 5)];
+            for flush in [6, 1] {
+                let mut scene = self.scene(vfes[0], &[block(9, 10)]);
+                scene.scoreboard(&mut self.random, &[flush], vfes[1]);
+                scene.object(&mut self.random, block(10, 10), 0);
+                scene.scoreboard(&mut self.random, &[flush], vfes[0]);
+                scene.object(&mut self.random, block(11, 10), 0);
+                for run in [
+                    &[2][..],
+                    &[0, 2],
+                    &[0, 1, 2],
+                    &[4],
+                    &[0, 4],
+                    &[2, 4],
+                    &[0, 2, 4],
+                    &[0, 1, 2, 4],
+                    &[0, 1, 2, 3, 4, 5],
+                ] {
+                    self.add(&scene, run);
+                }
+            }
+        }
+    }
+
+    /// Two objects under equal VFEs with a state flush between, and each bit of the second
+    /// the other way.
+    fn second_vfes(&mut self) {
+        let mut vfe = free_vfe([(-1, 0); 8]);
+        vfe.mask = 0b100;
+        let mut scene = self.scene(vfe, &[block(9, 10)]);
+        let (batch, ..) = scene.batch();
+        // END goes, the state flush comes.
+        let place = batch.len() + 1;
+        scene.scoreboard(&mut self.random, &[6], vfe);
+        scene.object(&mut self.random, block(10, 10), 0);
+        for run in [&[0, 2][..], &[0, 1, 2, 3]] {
+            self.add(&scene, run);
+            for (at, bit) in (place..place + 8).flat_map(|at| (0..32).map(move |bit| (at, bit))) {
+                self.add(&scene, run);
+                let case = self.cases.last_mut().expect("just added");
+                case.batch.batch[at] ^= 1 << bit;
             }
         }
     }
@@ -645,30 +730,36 @@ impl Sweep {
         }
     }
 
-    /// The picture in both layouts and both types: its whole run, a part of it,
-    /// and runs in which a block is still awaited.
+    /// The picture in both layouts and both types, and one in passes: its whole run, a
+    /// part of it, and runs in which a block is still awaited.
     fn pictures(&mut self) {
         for layout in [Layout::Raster, Layout::Waves] {
             for stalling in [false, true] {
-                let (scene, run) = picture(self.chip, PICTURE, layout, stalling);
-                self.add(&scene, &run);
-                self.add(&scene, &run[..run.len() / 3]);
-                for block in [1, 44, 45, 46, 700, 1619] {
-                    // The run up to the block's start, but for one finish before it.
-                    let start = run.iter().position(|&event| event == 2 * block);
-                    let before = &run[..start.expect("every block starts")];
-                    let finishes: Vec<usize> = (0..before.len())
-                        .filter(|&at| before[at] % 2 == 1)
-                        .collect();
-                    for back in [1, 2, 20, 44, 45, 46] {
-                        let mut run = before.to_vec();
-                        if let Some(at) = finishes.len().checked_sub(back) {
-                            run.remove(finishes[at]);
-                        }
-                        run.push(2 * block);
-                        self.add(&scene, &run);
-                    }
+                let whole = picture(self.chip, PICTURE, layout, stalling);
+                self.picture(whole, [1, 44, 45, 46, 700, 1619]);
+                let in_passes = passes(self.chip, (9, 8), layout, stalling);
+                self.picture(in_passes, [72, 73, 80, 144, 150, 215]);
+            }
+        }
+    }
+
+    fn picture(&mut self, (scene, run): (Scene, Vec<u32>), blocks: [u32; 6]) {
+        self.add(&scene, &run);
+        self.add(&scene, &run[..run.len() / 3]);
+        for block in blocks {
+            // The run up to the block's start, but for one finish before it.
+            let start = run.iter().position(|&event| event == 2 * block);
+            let before = &run[..start.expect("every block starts")];
+            let finishes: Vec<usize> = (0..before.len())
+                .filter(|&at| before[at] % 2 == 1)
+                .collect();
+            for back in [1, 2, 20, 44, 45, 46] {
+                let mut run = before.to_vec();
+                if let Some(at) = finishes.len().checked_sub(back) {
+                    run.remove(finishes[at]);
                 }
+                run.push(2 * block);
+                self.add(&scene, &run);
             }
         }
     }
@@ -679,7 +770,7 @@ impl Sweep {
             if index % 5 == 0 {
                 let events = self.random.below(4);
                 let run = junk_run(&mut self.random, 1, events);
-                let odd = self.random.pick(&[0, 0, 0, 1, 2, 3]);
+                let odd = self.random.pick(&[0, 0, 0, 0, 0, 0, 1, 2, 3]);
                 self.cases.push(Case {
                     batch,
                     run,

@@ -126,6 +126,58 @@ fn refusal_25_names_the_lowest_object_and_delta() {
     assert_eq!(judged(&scene, &all), ([0, 8, 0, 0], vec![2; 4]));
 }
 
+/// Two objects, each under its own VFE, whose scoreboards alone differ: the second one's
+/// answer, after a state flush and after MI_FLUSH.
+fn under_each(vfes: [Vfe; 2], events: &[u32]) -> [u64; 4] {
+    let [after_state_flush, after_flush] = [6, 1].map(|flush| {
+        let scenes = CHIPS.map(|chip| {
+            let random = &mut Random::new(2);
+            let mut scene = Scene::new(chip);
+            scene.vfe(random, vfes[0]);
+            scene.object(random, at(1, 1), 1);
+            scene.scoreboard(random, &[flush, 0], vfes[1]);
+            scene.object(random, at(2, 1), 1);
+            scene
+        });
+        judged(&scenes, events).0
+    });
+    assert_eq!(after_state_flush, after_flush);
+    after_flush
+}
+
+/// Deltas, mask, type and enable are those of the object's own VFE.
+#[test]
+fn each_object_is_judged_by_its_own_vfe() {
+    let mut waits = QUIET;
+    waits.deltas[3] = (-1, 0);
+    waits.deltas[6] = (-1, 0);
+    assert_eq!(under_each([QUIET, waits], &[0, 2]), [25, 1, 0, 3]);
+    assert_eq!(under_each([waits, QUIET], &[0, 2]), [0, 2, 0, 0]);
+    // The mask leaves the higher delta in play, or none.
+    let masked = |mask| Vfe { mask, ..waits };
+    assert_eq!(under_each([waits, masked(0x40)], &[0, 2]), [25, 1, 0, 6]);
+    assert_eq!(under_each([masked(0x40), waits], &[0, 2]), [25, 1, 0, 3]);
+    assert_eq!(under_each([waits, masked(0x17)], &[0, 2]), [0, 2, 0, 0]);
+    assert_eq!(under_each([masked(0x17), waits], &[0, 2]), [25, 1, 0, 3]);
+    // The type of the first one's VFE does not stall the second.
+    let stalling = Vfe {
+        stalling: true,
+        ..waits
+    };
+    assert_eq!(under_each([waits, stalling], &[2]), [24, 0, 0, 0]);
+    assert_eq!(under_each([stalling, waits], &[2]), [25, 0, 0, 3]);
+    // Both must use a scoreboard where one waits, the second alone where it stalls.
+    let off = |vfe| Vfe {
+        enable: false,
+        ..vfe
+    };
+    assert_eq!(under_each([waits, waits], &[0, 2]), [25, 1, 0, 3]);
+    assert_eq!(under_each([off(waits), waits], &[0, 2]), [0, 2, 0, 0]);
+    assert_eq!(under_each([waits, off(waits)], &[0, 2]), [0, 2, 0, 0]);
+    assert_eq!(under_each([off(stalling), stalling], &[2]), [24, 0, 0, 0]);
+    assert_eq!(under_each([stalling, off(stalling)], &[2]), [0, 1, 0, 0]);
+}
+
 /// The sum is taken as a whole number, not in nine bits.
 #[test]
 fn nobody_waits_across_the_edge() {

@@ -46,6 +46,14 @@ pub fn run(tables: &mut Tables) {
         pair.push(FLUSH);
         repeat(size, &[], &pair)
     });
+    sizes(7, "VFE and state flush in turn", &|size| {
+        // From one VFE to the next a delta changes, and nothing else.
+        let flush = [STATE_FLUSH << 16, 0];
+        let mut other = VFE_STATE;
+        other[6] = 0xff;
+        let pairs = [&VFE_STATE[..], &flush, &other, &flush].concat();
+        repeat(size, &[], &pairs)
+    });
     sizes(7, "CURBE loads", &|size| {
         repeat(size, &VFE_STATE, &CURBE_LOAD)
     });

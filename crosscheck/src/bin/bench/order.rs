@@ -8,7 +8,7 @@ use crate::timing::{Lent, Side};
 use crosscheck::batch::RECORD;
 use crosscheck::ffi;
 use crosscheck::generate;
-use crosscheck::generate::order::{field, picture, Layout, Object, Scene, Vfe, PICTURE};
+use crosscheck::generate::order::{field, passes, picture, Layout, Object, Scene, Vfe, PICTURE};
 use crosscheck::order::{self, Answer};
 use std::hint::black_box;
 
@@ -29,6 +29,16 @@ pub fn run(tables: &mut Tables) {
     for (chip, name, layout) in pictures {
         for part in parts {
             let (scene, run) = picture(chip, (width, part), layout, true);
+            both_entries(tables, name, &scene, &run);
+        }
+    }
+    let in_passes = [
+        ("three passes, wave by wave, stalling", Layout::Waves),
+        ("three passes, block by block, stalling", Layout::Raster),
+    ];
+    for (name, layout) in in_passes {
+        for part in parts {
+            let (scene, run) = passes(7, (width, part / 3), layout, true);
             both_entries(tables, name, &scene, &run);
         }
     }

@@ -1,3 +1,4 @@
+use super::vfes::changed;
 use super::*;
 use crate::batch::{check, check_bytes, Answer};
 
@@ -62,6 +63,88 @@ fn met_alone<'a>(chip: u32, cases: impl Iterator<Item = &'a Case>) -> [masks::Ma
         }
     }
     met
+}
+
+/// Every bit of a second VFE stands in the sweep as its only difference to the first, with
+/// nothing but a state flush between.
+#[test]
+fn sweep_meets_every_bit_of_a_second_vfe() {
+    let mut met = [[0; 8]; CHIPS.len()];
+    for case in sweep(1) {
+        let chip = CHIPS.iter().position(|&chip| chip == case.chip);
+        let (Some(chip), Some(words)) = (chip, case.batch.first_chunk::<18>()) else {
+            continue;
+        };
+        let changed: [u32; 8] = std::array::from_fn(|dword| words[dword] ^ words[10 + dword]);
+        let bits: u32 = changed.iter().map(|bits| bits.count_ones()).sum();
+        if words[0] == HEADERS[3] && words[8] == HEADERS[6] && bits == 1 {
+            for (met, bits) in met[chip].iter_mut().zip(changed) {
+                *met |= bits;
+            }
+        }
+    }
+    assert_eq!(met, [[u32::MAX; 8]; CHIPS.len()]);
+}
+
+/// Rule 8 of a VFE in the papers' words, over commands of which nothing else is at fault.
+/// What passes by the rule of document 01 alone passes still.
+#[test]
+fn vfes_are_judged_alike() {
+    let mut reached = [0; 3];
+    for index in 0..4000 {
+        let random = &mut Random::for_case(10, index);
+        let chip = random.pick(&CHIPS);
+        let dwords = random.between(20, 150);
+        let mut commands = Draft::valid(random, chip, Mix::All, dwords, u32::MAX).commands;
+        for command in &mut commands {
+            match command.kind {
+                // One flush for the other.
+                1 | 6 if random.one_in(4) => *command = Command::plain(7 - command.kind),
+                // Not dword 4: it may turn a CURBE load away.
+                3 if random.one_in(6) => {
+                    let dword = random.pick(&[1, 2, 3, 5, 6, 7]);
+                    *command = changed(random, chip, command, dword);
+                }
+                _ => {}
+            }
+        }
+        let first_refused = |rule: fn(&[Command], &Command) -> bool| {
+            let mut vfes = (0..commands.len()).filter(|&at| commands[at].kind == 3);
+            vfes.find(|&at| !rule(&commands[..at], &commands[at]))
+        };
+        let batch = flat(&commands);
+        let expected = match first_refused(passes) {
+            Some(at) => Answer::refused(8, flat(&commands[..at]).len()),
+            None => Answer::accepted(commands.len(), batch.len()),
+        };
+        let mut records = vec![0; RECORD * commands.len()];
+        let answer = check(chip, &batch, u32::MAX, &mut records);
+        assert_eq!(answer, expected, "case {index}");
+        let before = first_refused(|before, _| !stands(before, &[1]));
+        reached[match (before, answer.number) {
+            (None, number) => {
+                assert_eq!(number, 0);
+                0
+            }
+            (Some(_), 0) => 1,
+            _ => 2,
+        }] += 1;
+    }
+    assert!(reached.iter().all(|&count| count > 400), "{reached:?}");
+}
+
+/// Whether a VFE passes 8 after these commands.
+fn passes(before: &[Command], vfe: &Command) -> bool {
+    let in_force = before.iter().rev().find(|command| command.kind == 3);
+    let only_scoreboard = in_force.is_some_and(|other| other.words[..5] == vfe.words[..5]);
+    !stands(before, &[1]) || only_scoreboard && !stands(before, &[1, 6])
+}
+
+/// Whether a command of kind 3, 4, 5, 7 or 8 stands since the last one of these kinds.
+fn stands(before: &[Command], flushes: &[usize]) -> bool {
+    let since = before.iter().rev();
+    let mut since = since.take_while(|command| !flushes.contains(&command.kind));
+    since.any(|command| matches!(command.kind, 3 | 4 | 5 | 7 | 8))
 }
 
 /// The numbers that a chip's cases of the sweep get, over dwords and over bytes.

@@ -63,7 +63,22 @@ impl Scene {
         if !self.vfes.is_empty() {
             self.commands.push(Command::plain(1));
         }
-        let mut command = Command::vfe(random, self.chip, Rows(1, 2, 4));
+        let command = Command::vfe(random, self.chip, Rows(1, 2, 4));
+        self.push_vfe(random, command, vfe);
+    }
+
+    /// The last VFE with this scoreboard, after flushes and no-ops of these kinds.
+    pub fn scoreboard(&mut self, random: &mut Random, flushes: &[usize], vfe: Vfe) {
+        let mut commands = self.commands.iter().rev();
+        let last = commands.find(|command| command.kind == 3).cloned();
+        for &kind in flushes {
+            let flush = Command::random(random, self.chip, kind);
+            self.commands.push(flush);
+        }
+        self.push_vfe(random, last.expect("a VFE"), vfe);
+    }
+
+    fn push_vfe(&mut self, random: &mut Random, mut command: Command, vfe: Vfe) {
         let flags = u32::from(vfe.enable) << 31 | u32::from(!vfe.stalling) << 30;
         command.words[5] = flags | u32::from(vfe.mask);
         for (half, dword) in [(0, 6), (4, 7)] {
@@ -78,6 +93,10 @@ impl Scene {
             self.commands.push(Command::load(5, 64, 0x1000));
         }
         self.vfes.push(vfe);
+    }
+
+    pub fn last_vfe(&self) -> Vfe {
+        *self.vfes.last().expect("a VFE")
     }
 
     /// An OBJECT under the last VFE.
@@ -274,41 +293,61 @@ pub enum Layout {
 /// A picture of blocks, each predicted from its left, upper and upper right
 /// neighbour, and the run in which every block starts and finishes: block by
 /// block in raster order, or wave by wave, all of a wave in flight.
-pub fn picture(
+pub fn picture(chip: u32, size: (i32, i32), layout: Layout, stalling: bool) -> (Scene, Vec<u32>) {
+    in_passes(chip, size, layout, stalling, &PASSES[..1])
+}
+
+/// Such a picture in three passes one after the other. The VFE of a later one changes
+/// deltas alone, after a state flush: each block waits for itself in the passes before.
+pub fn passes(chip: u32, size: (i32, i32), layout: Layout, stalling: bool) -> (Scene, Vec<u32>) {
+    in_passes(chip, size, layout, stalling, &PASSES)
+}
+
+/// The deltas of each pass.
+const PASSES: [[(i32, i32); 3]; 3] = [
+    [(-1, 0), (0, -1), (1, -1)],
+    [(-1, 0), (0, -1), (0, 0)],
+    [(1, -1), (0, 0), (-1, 0)],
+];
+
+fn in_passes(
     chip: u32,
     (width, height): (i32, i32),
     layout: Layout,
     stalling: bool,
+    passes: &[[(i32, i32); 3]],
 ) -> (Scene, Vec<u32>) {
     let random = &mut Random::new(1);
     let mut scene = Scene::new(chip);
-    let mut deltas = [(0, 0); 8];
-    deltas[..3].copy_from_slice(&[(-1, 0), (0, -1), (1, -1)]);
-    scene.vfe(
-        random,
-        Vfe {
+    let mut run = Vec::new();
+    for pass in passes {
+        let mut vfe = Vfe {
             enable: true,
             stalling,
             mask: 0b111,
-            deltas,
-        },
-    );
-    let mut run = Vec::new();
-    for blocks in waves(width, height, layout) {
-        let first = scene.objects() as u32;
-        for (x, y) in blocks {
-            let block = Object {
-                own_use: true,
-                x,
-                y,
-                colour: 0,
-                mask: 0b111,
-            };
-            scene.object(random, block, 3);
+            deltas: [(0, 0); 8],
+        };
+        vfe.deltas[..3].copy_from_slice(pass);
+        match scene.vfes.is_empty() {
+            true => scene.vfe(random, vfe),
+            false => scene.scoreboard(random, &[6], vfe),
         }
-        let blocks = first..scene.objects() as u32;
-        run.extend(blocks.clone().map(|block| 2 * block));
-        run.extend(blocks.map(|block| 2 * block + 1));
+        for blocks in waves(width, height, layout) {
+            let first = scene.objects() as u32;
+            for (x, y) in blocks {
+                let block = Object {
+                    own_use: true,
+                    x,
+                    y,
+                    colour: 0,
+                    mask: 0b111,
+                };
+                scene.object(random, block, 3);
+            }
+            let blocks = first..scene.objects() as u32;
+            run.extend(blocks.clone().map(|block| 2 * block));
+            run.extend(blocks.map(|block| 2 * block + 1));
+        }
     }
     (scene, run)
 }

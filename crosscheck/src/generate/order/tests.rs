@@ -67,6 +67,13 @@ fn complete_runs_pass() {
     }
 }
 
+fn passes_whole(scene: &Scene, run: &[u32]) {
+    let (answer, _) = checked(&Case::new(scene, run.to_vec()));
+    assert_eq!(answer, Answer::new(0, 2 * scene.objects()));
+    assert_eq!(answer, scene.judge(run).0);
+}
+
+/// In one pass, and in three.
 #[test]
 fn pictures_pass() {
     for layout in [Layout::Raster, Layout::Waves] {
@@ -75,9 +82,10 @@ fn pictures_pass() {
                 for chip in CHIPS {
                     let (scene, run) = picture(chip, (width, height), layout, stalling);
                     assert_eq!(scene.objects(), (width * height) as usize);
-                    let (answer, _) = checked(&Case::new(&scene, run.clone()));
-                    assert_eq!(answer, Answer::new(0, 2 * scene.objects()));
-                    assert_eq!(answer, scene.judge(&run).0);
+                    passes_whole(&scene, &run);
+                    let (scene, run) = passes(chip, (width, height / 3), layout, stalling);
+                    assert_eq!(scene.objects(), (3 * width * (height / 3)) as usize);
+                    passes_whole(&scene, &run);
                 }
             }
         }
