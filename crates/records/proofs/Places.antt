@@ -145,7 +145,3 @@ module _ (b : List ℕ) (w : Place) where
 
     pub from-less : (at : ℕ) → low ≡ at + 1 → length b - to < length b - at
     from-less at q = let z = goes .0 in let i = left-in b to s n (goes .1) in omega arith
-
--- a pass that is read to END does not run past the batch
-pub left-over : (b : List ℕ) (at : ℕ) (st : State) (n L : ℕ) (x y : Buffer) → Left b at st n → L ≡ length b → L ≤ at → x ≡ y
-left-over b at st n L x y l el q = let i = left-in b at st n l in absurd (omega arith)

@@ -16,7 +16,6 @@ use command::head::total;
 use command::states::after;
 use command::states::start;
 use record::words;
-use words::held;
 use words::store_in;
 use words::word;
 
@@ -207,10 +206,10 @@ pub fn fill(target: Target, dw: &[u32], by: &[u8], rd: &mut [u32], rb: &mut [u8]
     ensures { λ _. ⌜ lentBuffer (rd .exit) (rb .exit)
         ≡ recorded putIn target (lent (dw .entry) (by .entry)) (lentBuffer (rd .entry) (rb .entry)) ⌝ }
 {
-    let len = held(dw, by);
     let mut at: usize = 0;
     let mut st = start(target);
-    while at < len {
+    // END stands before the batch ends: without a test of its length the number of the VFE in force stays in a register
+    loop {
         match record_at(dw, by, at, st, rd, rb) {
             Place::Done => {
                 return;
