@@ -84,11 +84,18 @@ by-nested P true false true n p q r s = absurd (not-both true refl (n .eitherFir
 by-nested P true true false n p q r s = r
 by-nested P true true true n p q r s = s
 
+-- a flag tells what it was made of
+pub set-flag : (t : Bool) → isSet (flag t) ≡ t
+set-flag true = refl
+set-flag false = refl
+
 -- LAW
 pub state-tells : (target : Target) (cs : List Command) → StateTells target cs
 unfolding stateOf
 state-tells target cs =
     record {
+      vfe = set-flag (earlierVfe cs);
+      count = refl;
       media = by-nested (λ (a b o : Bool). leb 1 (flag a + flag b + flag o) ≡ a) _ _ _ (nested cs) refl refl refl refl;
       either = by-nested (λ (a b o : Bool). leb 2 (flag a + flag b + flag o) ≡ b) _ _ _ (nested cs) refl refl refl refl;
       object = by-nested (λ (a b o : Bool). leb 3 (flag a + flag b + flag o) ≡ o) _ _ _ (nested cs) refl refl refl refl;
@@ -137,18 +144,17 @@ nearest-vfe (x ∷ xs) c ys e k = go (eqb (x .kind) 3) (λ n. nearest-vfe xs c y
     go true ih e = absurd (not-both true refl e)
     go false ih e = ih e
 
--- a flag tells what it was made of
-pub set-flag : (t : Bool) → isSet (flag t) ≡ t
-set-flag true = refl
-set-flag false = refl
-
 pub after-kind : (k n : ℕ) (h : List ℕ) (st r : State) → k ≡ n → r ≡ stateAfter n h st → r ≡ stateAfter k h st
 after-kind k n h st r p e = e ∙ ap (λ (x : ℕ). stateAfter x h st) (sym p)
 
--- the chip is what it was
+-- chip and capacity are what they were
 pub state-chip : (target : Target) (cs : List Command) → stateOf target cs .chip ≡ target .chip
 unfolding stateOf
 state-chip target cs = refl
+
+pub state-capacity : (target : Target) (cs : List Command) → stateOf target cs .capacity ≡ target .capacity
+unfolding stateOf
+state-capacity target cs = refl
 
 module _ (k : ℕ) (h : List ℕ) (st : State) where
   pub after-chip : stateAfter k h st .chip ≡ st .chip

@@ -40,7 +40,7 @@ standsSince kinds last (c ∷ cs) = since false true kinds last (c .kind) (stand
 abbrev pub earlierVfe : List Command → Bool
 earlierVfe cs = standsSince (3 ∷ []) [] cs
 
--- "no command of kind 3, 4, 5 or 7 stands since the last MI_FLUSH or the start": those kinds, kind 8, and the flush's
+-- "no command of kind 3, 4, 5 or 7 stands since the last MI_FLUSH or the start": those kinds and kind 8, and the kind of the flush
 abbrev pub mediaKinds : List ℕ
 mediaKinds = 3 ∷ 4 ∷ 5 ∷ 7 ∷ 8 ∷ []
 
@@ -50,14 +50,15 @@ fullFlush = 1 ∷ []
 abbrev pub mediaSinceFlush : List Command → Bool
 mediaSinceFlush cs = standsSince mediaKinds fullFlush cs
 
--- document 02, Two: "no command of kind 3, 4, 5, 7 or 8 stands since the last kind 1 or kind 6": the same kinds, and either flush's
+-- "since the last kind 1 or 6", and document 02, Two, "since the last kind 1 or kind 6": an MI_FLUSH or a state flush
 abbrev pub eitherFlush : List ℕ
 eitherFlush = 1 ∷ 6 ∷ []
 
+-- document 02, Two: "no command of kind 3, 4, 5, 7 or 8 stands since the last kind 1 or kind 6"
 abbrev pub mediaSinceEither : List Command → Bool
 mediaSinceEither cs = standsSince mediaKinds eitherFlush cs
 
--- "no OBJECT stands since the last kind 1 or 6": its kind, and those two
+-- "no OBJECT stands since the last kind 1 or 6"
 abbrev pub objectKinds : List ℕ
 objectKinds = 7 ∷ []
 
@@ -91,10 +92,10 @@ flag t = cond t 1 0
 abbrev pub isSet : ℕ → Bool
 isSet n = not (eqb n 0)
 
--- What stands, as one number. Where an OBJECT stands since the last of either flush, a command of the kinds does, and where one does, one
--- stands since the last MI_FLUSH: so the flags' sum tells them all.
-abbrev standing : List Command → ℕ
-standing cs = flag (mediaSinceFlush cs) + flag (mediaSinceEither cs) + flag (objectSinceFlush cs)
+-- What stands, as one number: 1, 2 or 3 where one of the kinds stands since the last MI_FLUSH, where one stands since the last of either
+-- flush, where an OBJECT does. Each implies those before it, so that the sum of the flags tells them all: `StateTells`, below.
+abbrev standingIn : List Command → ℕ
+standingIn cs = flag (mediaSinceFlush cs) + flag (mediaSinceEither cs) + flag (objectSinceFlush cs)
 
 -- all of that, with what the batch is judged for
 unfoldable pub stateOf : Target → List Command → State
@@ -109,19 +110,20 @@ stateOf target cs =
       «vfe_dword3» = dword (stateInForce cs) 3;
       «vfe_dword4» = dword (stateInForce cs) 4;
       «count_loaded» = countLoaded cs;
-      standing = standing cs;
+      standing = standingIn cs;
       commands = length cs;
       objects = objectCount cs;
     }
 
--- What a state tells of the commands before. Does one of the kinds stand since the last MI_FLUSH, or since the last of either flush; does
--- an OBJECT since the last of either?
+-- What a state tells of the commands before. Does one of the kinds stand since the last MI_FLUSH?
 abbrev pub mediaStands : State → Bool
 mediaStands st = leb 1 (st .standing)
 
+-- since the last of either flush?
 abbrev pub mediaStandsEither : State → Bool
 mediaStandsEither st = leb 2 (st .standing)
 
+-- does an OBJECT, since the last of either?
 abbrev pub objectStands : State → Bool
 objectStands st = leb 3 (st .standing)
 
@@ -129,8 +131,10 @@ objectStands st = leb 3 (st .standing)
 abbrev pub curbeInForce : State → ℕ
 curbeInForce st = field (bits 15 0) (st .«vfe_dword4»)
 
--- and that it is what their list says
+-- What a state tells is what the list says: a law for every list.
 pub record StateTells (target : Target) (cs : List Command) : Type 0 where
+  pub vfe : isSet (stateOf target cs .«earlier_vfe») ≡ earlierVfe cs
+  pub count : stateOf target cs .«count_loaded» ≡ countLoaded cs
   pub media : mediaStands (stateOf target cs) ≡ mediaSinceFlush cs
   pub either : mediaStandsEither (stateOf target cs) ≡ mediaSinceEither cs
   pub object : objectStands (stateOf target cs) ≡ objectSinceFlush cs

@@ -4,8 +4,8 @@ pub mod states;
 
 use chips::Chip;
 
-// What the batch is judged for, the chip and the capacity in rows, and what the commands before a command have set. The flag is 1 or 0: as
-// a bool, whose byte is stored alone and loaded as a part of a word, it held up the loop.
+// What the batch is judged for, the chip and the capacity in rows, and what the commands before a command have set. The flag is 1 or 0:
+// bools, whose bytes are stored one by one and loaded as one word, held up the loop.
 pub struct State {
     pub chip: Chip,
     pub capacity: u32,
@@ -18,8 +18,8 @@ pub struct State {
     pub vfe_dword4: u32,
     // descriptors last loaded
     pub count_loaded: u32,
-    // 1: a command of kind 3, 4, 5, 7 or 8 stands since the last MI_FLUSH; 2: since the last MI_FLUSH or MEDIA_STATE_FLUSH; 3: an OBJECT
-    // does; 0: none. One number, as what is kept in registers is little.
+    // 0: nothing stands; 1: a command of kind 3, 4, 5, 7 or 8 since the last MI_FLUSH; 2: one since the last MI_FLUSH or
+    // MEDIA_STATE_FLUSH; 3: an OBJECT since then. One number and not three flags, so that all that the loop asks stays in registers.
     pub standing: u32,
     pub commands: u32,
     pub objects: u32,

@@ -60,7 +60,8 @@ fn after_vfe(h: [u32; 8], st: State) -> State
     next.vfe_dword2 = h[2];
     next.vfe_dword3 = h[3];
     next.vfe_dword4 = h[4];
-    next.standing = with_media(st.standing);
+    let standing = with_media(st.standing);
+    next.standing = standing;
     next
 }
 

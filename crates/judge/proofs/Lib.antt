@@ -1,5 +1,5 @@
 pub mod Verdicts
 pub mod Judged
 pub mod Vouching
+pub mod FullFlush
 pub mod Flushes
-pub mod Before

@@ -45,20 +45,42 @@ scoreboardOnly h st =
     && eqb (dword h 3) (st .«vfe_dword3»)
     && eqb (dword h 4) (st .«vfe_dword4»)
 
--- Document 01: "A VFE needs that no command of kind 3, 4, 5 or 7 stands since the last MI_FLUSH or the start"; kind 8 too, "counting with
--- it before a VFE (H)". Does one stand?
-abbrev pub withoutFullFlush : State → Bool
-withoutFullFlush st = mediaStands st
-
--- Does a VFE with own dwords h stand without the flush that it needs? Document 02, Two, where only the scoreboard differs: "a media state
--- flush is enough. On either chip such a VFE now passes 8 if no command of kind 3, 4, 5, 7 or 8 stands since the last kind 1 or kind 6."
+-- Does a VFE with own dwords h stand without the flush that it needs? Document 01: "A VFE needs that no command of kind 3, 4, 5 or 7 stands
+-- since the last MI_FLUSH or the start"; kind 8 too, "counting with it before a VFE (H)". Document 02, Two, where only the scoreboard
+-- differs: "a media state flush is enough. On either chip such a VFE now passes 8 if no command of kind 3, 4, 5, 7 or 8 stands since the
+-- last kind 1 or kind 6."
 abbrev pub withoutFlush : List ℕ → State → Bool
-withoutFlush h st = withoutFullFlush st && not (not (mediaStandsEither st) && scoreboardOnly h st)
+withoutFlush h st = mediaStands st && (mediaStandsEither st || not (scoreboardOnly h st))
 
--- Rows 6 to 9 read the own dwords h, by the chip's masks, and what the commands before have set. Whether a VFE stands without its flush is
--- an argument, as document 02 changed that and nothing else.
-abbrev pub ownRowsBy : Bool → Chip → ℕ → List ℕ → State → List (Row Verdict)
-ownRowsBy unflushed c k h st =
+-- What rows 8 and 9 ask beside the command's own dwords: of the commands before it, and the capacity.
+pub record Facts : Type 0 where
+  -- a VFE stands earlier
+  pub vfe : Bool
+  -- a VFE, if this is one, stands without its flush
+  pub unflushed : Bool
+  -- an OBJECT stands since the last kind 1 or 6
+  pub object : Bool
+  -- the count last loaded
+  pub count : ℕ
+  -- the CURBE size in force, and the capacity, in rows
+  pub curbe : ℕ
+  pub capacity : ℕ
+
+-- as a state tells them, where the rule of a VFE's flush is an argument
+abbrev pub factsBy : Bool → State → Facts
+factsBy unflushed st =
+    record {
+      vfe = isSet (st .«earlier_vfe»);
+      unflushed = unflushed;
+      object = objectStands st;
+      count = st .«count_loaded»;
+      curbe = curbeInForce st;
+      capacity = st .capacity;
+    }
+
+-- Rows 6 to 9 read the own dwords h, by the chip's masks, and those facts.
+abbrev pub ownRowsBy : Facts → Chip → ℕ → List ℕ → List (Row Verdict)
+ownRowsBy facts c k h =
     mustBeZero c k h 1
     ∷ mustBeZero c k h 2
     ∷ mustBeZero c k h 3
@@ -73,36 +95,37 @@ ownRowsBy unflushed c k h st =
     ∷ row (Fault 7 2) (eqb k 5 && ltb 2048 (loadLength h))
     ∷ row (Fault 7 3) (isLoad k && not (eqb (loadAddress h % 32) 0))
     -- 8: "kinds 4, 5, 7 need an earlier VFE"; kind 8 "is ordered as kind 4 is"
-    ∷ row (Fault 8 0) ((isLoad k || eqb k 7 || eqb k 8) && not (isSet (st .«earlier_vfe»)))
-    -- 8: "A VFE needs that no command of kind 3, 4, 5 or 7 stands since ..": above
-    ∷ row (Fault 8 0) (eqb k 3 && unflushed)
+    ∷ row (Fault 8 0) ((isLoad k || eqb k 7 || eqb k 8) && not (facts .vfe))
+    -- 8: "A VFE needs that no command of kind 3, 4, 5 or 7 stands since the last MI_FLUSH or the start", or as Two has it: `withoutFlush`
+    ∷ row (Fault 8 0) (eqb k 3 && facts .unflushed)
     -- 8: "A descriptor load needs that no OBJECT stands since the last kind 1 or 6"
-    ∷ row (Fault 8 0) (eqb k 5 && objectStands st)
+    ∷ row (Fault 8 0) (eqb k 5 && facts .object)
     -- 8: "An OBJECT's index is below the count last loaded"
-    ∷ row (Fault 8 0) (eqb k 7 && leb (st .«count_loaded») (descriptorIndex h))
+    ∷ row (Fault 8 0) (eqb k 7 && leb (facts .count) (descriptorIndex h))
     -- 9: "VFE: entries x entry size + CURBE size exceeds the lent capacity in rows"
-    ∷ row (Fault 9 0) (eqb k 3 && ltb (st .capacity) (urbEntries h * entrySize h + curbeSize h))
+    ∷ row (Fault 9 0) (eqb k 3 && ltb (facts .capacity) (urbEntries h * entrySize h + curbeSize h))
     -- 9: "CURBE load: length exceeds 32 x CURBE size in force"
-    ∷ row (Fault 9 0) (eqb k 4 && ltb (32 * curbeInForce st) (loadLength h))
+    ∷ row (Fault 9 0) (eqb k 4 && ltb (32 * facts .curbe) (loadLength h))
     ∷ []
 
 abbrev pub ownRows : Chip → ℕ → List ℕ → State → List (Row Verdict)
-ownRows c k h st = ownRowsBy (withoutFlush h st) c k h st
+ownRows c k h st = ownRowsBy (factsBy (withoutFlush h st) st) c k h
 
 -- rows 3 to 9; the first row that holds decides
 unfoldable pub judgeOf : ℕ → ℕ → List ℕ → State → Verdict
 judgeOf k left h st = firstRow Passed (headerRows k (dword h 0) left ++ ownRows (st .chip) k h st)
 
--- the same by document 01's rule of a VFE alone, before document 02's Two
-unfoldable pub judgeBefore : ℕ → ℕ → List ℕ → State → Verdict
-judgeBefore k left h st = firstRow Passed (headerRows k (dword h 0) left ++ ownRowsBy (withoutFullFlush st) (st .chip) k h st)
-
--- its halves, as the code asks them
+-- the halves of `judgeOf`, as the code asks them
 unfoldable pub headerVerdict : ℕ → ℕ → ℕ → Verdict
 headerVerdict k d left = firstRow Passed (headerRows k d left)
 
 unfoldable pub ownVerdict : ℕ → List ℕ → State → Verdict
 ownVerdict k h st = firstRow Passed (ownRows (st .chip) k h st)
+
+-- rows 3 to 9 as they were before document 02's Two, when only an MI_FLUSH freed a VFE
+unfoldable pub judgeByFullFlush : ℕ → ℕ → List ℕ → State → Verdict
+judgeByFullFlush k left h st =
+    firstRow Passed (headerRows k (dword h 0) left ++ ownRowsBy (factsBy (mediaStands st) st) (st .chip) k h)
 
 -- does a verdict let a command pass?
 abbrev pub isPassed : Verdict → Bool

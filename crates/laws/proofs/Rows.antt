@@ -1,5 +1,6 @@
 -- A table by its rows: what decides has a number, which no row has as 0. Assumes nothing.
 use mathlib.Core.Path.{_≡_, refl, subst⁻¹}
+use mathlib.Core.Logic.{_⊎_, inl, inr}
 use mathlib.Core.Bool.{Bool, true, false, not, cond, _&&_}
 use mathlib.Core.List.{List, [], _∷_, _++_}
 use Prim.Native.Nat.{ℕ, zero, suc}
@@ -22,6 +23,17 @@ EachRow P (r ∷ rs) = (r .holds ≡ true → P (r .gives)) × EachRow P rs
 pub by-rows : {A : Type 0} (P : A → Type 0) (x : A) (rs : List (Row A)) → P x → EachRow P rs → P (firstRow x rs)
 by-rows P x [] p q = p
 by-rows P x (r ∷ rs) p q = by-cond P (r .holds) (r .gives) (firstRow x rs) (q .0) (λ _. by-rows P x rs p (q .1))
+
+-- The same rows before two endings: one of them decides in both, or none does.
+pub same-or-rest : {A : Type 0} (rs : List (Row A)) (x y : A) → (firstRow y rs ≡ firstRow x rs) ⊎ ((firstRow x rs ≡ x) × (firstRow y rs ≡ y))
+same-or-rest [] x y = inr (refl, refl)
+same-or-rest (r ∷ rs) x y = go (r .holds) (same-or-rest rs x y)
+  where
+    go : (t : Bool) → (firstRow y rs ≡ firstRow x rs) ⊎ ((firstRow x rs ≡ x) × (firstRow y rs ≡ y))
+        → (cond t (r .gives) (firstRow y rs) ≡ cond t (r .gives) (firstRow x rs))
+        ⊎ ((cond t (r .gives) (firstRow x rs) ≡ x) × (cond t (r .gives) (firstRow y rs) ≡ y))
+    go true ih = inl refl
+    go false ih = ih
 
 -- The number of what a row gives.
 module _ {A : Type 0} (number : A → ℕ) where

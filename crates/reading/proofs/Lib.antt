@@ -13,4 +13,4 @@ pub mod AfterEnd
 pub mod Vfes
 pub mod Counts
 pub mod BothChips
-pub mod Before
+pub mod FullFlush

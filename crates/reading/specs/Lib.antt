@@ -6,4 +6,4 @@ pub mod EndToEnd
 pub mod Vfes
 pub mod BothChips
 pub mod Turns
-pub mod Before
+pub mod FullFlush

@@ -19,6 +19,6 @@ pub record NearestVfe (cs : List Command) (n v : ℕ) : Type 0 where
   pub vfe : commandNumber cs v .kind ≡ 3
   pub nearest : (j : ℕ) → v < j → j < n → commandNumber cs j .kind ≡ 3 → ⊥
 
--- Each OBJECT of a list names the VFE in force, so that of two VFEs with other deltas, types or masks it is judged by its own.
+-- Each OBJECT of a list names the VFE in force, so that of VFEs that differ in deltas, type, mask or enable it is judged by its own.
 abbrev pub UnderVfe : List Command → Type 0
 UnderVfe cs = (i : ℕ) → i < length cs → commandNumber cs i .kind ≡ 7 → NearestVfe cs i (commandNumber cs i .vfe)

@@ -1,6 +1,6 @@
--- What document 02's Two changes in rows 3 to 9: a VFE that stands without a full flush, and nothing else. Assumes nothing.
+-- Rows 3 to 9 by the rule of a VFE's flush: no other command's verdict depends on it. Assumes nothing.
 use mathlib.Core.Path.{_≡_, sym, ap, _∙_}
-use mathlib.Core.Bool.{Bool, true, false, not, _&&_}
+use mathlib.Core.Bool.{Bool, true, false, not, _&&_, _||_}
 use Prim.Native.Nat.{ℕ}
 use mathlib.Core.List.{List, _++_}
 use lib.Dec.{eqb}
@@ -10,16 +10,16 @@ use Rattle.laws.proofs.Choices.{by-test}
 use Rattle.laws.proofs.Rows.{no-row}
 use Rattle.command.specs.declared.State.{State}
 use Rattle.command.specs.Fields.{dword}
-use Rattle.command.specs.Order.{mediaStandsEither}
+use Rattle.command.specs.Order.{mediaStands, mediaStandsEither}
 use Rattle.judge.specs.declared.Verdict.{Verdict}
 use Rattle.judge.specs.declared.Verdict.the-variants.{Passed}
-use Rattle.judge.specs.Refusals.{headerRows, ownRowsBy, scoreboardOnly, withoutFullFlush, withoutFlush, judgeBefore, judgeOf}
+use Rattle.judge.specs.Refusals.{headerRows, ownRowsBy, factsBy, scoreboardOnly, withoutFlush, judgeByFullFlush, judgeOf}
 use Rattle.judge.proofs.Judged.{numberOf}
 
 module _ (k left : ℕ) (h : List ℕ) (st : State) where
   -- the rows, by whether a VFE stands without its flush
   abbrev rows : Bool → List (Row Verdict)
-  rows t = headerRows k (dword h 0) left ++ ownRowsBy t (st .chip) k h st
+  rows t = headerRows k (dword h 0) left ++ ownRowsBy (factsBy t st) (st .chip) k h
 
   -- of a VFE that passes, it does not
   flushed-passed : (t : Bool) → firstRow Passed (rows t) ≡ Passed → k ≡ 3 → t ≡ false
@@ -27,7 +27,7 @@ module _ (k left : ℕ) (h : List ℕ) (st : State) where
       sym (ap (λ (x : Bool). x && t) (eq-eqb k 3 q)) ∙ no-row numberOf Passed (rows t) tt (ap numberOf e) 15
 
   -- no other command's verdict depends on it
-  other-kind : (t t′ : Bool) → eqb k 3 ≡ false → firstRow Passed (rows t′) ≡ firstRow Passed (rows t)
+  pub other-kind : (t t′ : Bool) → eqb k 3 ≡ false → firstRow Passed (rows t′) ≡ firstRow Passed (rows t)
   other-kind t t′ q = simp q
 
   passed-by : (t t′ : Bool) → firstRow Passed (rows t) ≡ Passed → (k ≡ 3 → t′ ≡ false) → firstRow Passed (rows t′) ≡ Passed
@@ -37,18 +37,18 @@ module _ (k left : ℕ) (h : List ℕ) (st : State) where
       (λ q. other-kind t t′ q ∙ e)
 
   -- LAWS: what passed before passes still ..
-  pub still-passes : judgeBefore k left h st ≡ Passed → judgeOf k left h st ≡ Passed
-  unfolding judgeBefore judgeOf
+  pub still-passes : judgeByFullFlush k left h st ≡ Passed → judgeOf k left h st ≡ Passed
+  unfolding judgeByFullFlush judgeOf
   still-passes e =
-      passed-by (withoutFullFlush st) (withoutFlush h st) e
-      (λ q. ap (λ (x : Bool). x && not (not (mediaStandsEither st) && scoreboardOnly h st)) (flushed-passed (withoutFullFlush st) e q))
+      passed-by (mediaStands st) (withoutFlush h st) e
+      (λ q. ap (λ (x : Bool). x && (mediaStandsEither st || not (scoreboardOnly h st))) (flushed-passed (mediaStands st) e q))
 
   -- .. after a full flush, if it is a VFE ..
-  pub before-flushed : judgeBefore k left h st ≡ Passed → k ≡ 3 → withoutFullFlush st ≡ false
-  unfolding judgeBefore
-  before-flushed e = flushed-passed (withoutFullFlush st) e
+  pub before-flushed : judgeByFullFlush k left h st ≡ Passed → k ≡ 3 → mediaStands st ≡ false
+  unfolding judgeByFullFlush
+  before-flushed e = flushed-passed (mediaStands st) e
 
   -- .. and what passes so now passed before
-  pub passed-before : judgeOf k left h st ≡ Passed → (k ≡ 3 → withoutFullFlush st ≡ false) → judgeBefore k left h st ≡ Passed
-  unfolding judgeBefore judgeOf
-  passed-before e p = passed-by (withoutFlush h st) (withoutFullFlush st) e p
+  pub passed-before : judgeOf k left h st ≡ Passed → (k ≡ 3 → mediaStands st ≡ false) → judgeByFullFlush k left h st ≡ Passed
+  unfolding judgeByFullFlush judgeOf
+  passed-before e p = passed-by (withoutFlush h st) (mediaStands st) e p

@@ -1,4 +1,4 @@
--- A batch that passed by document 01's rule of a VFE alone passes still, and is read alike. Assumes nothing.
+-- A batch that passed by the rule before document 02's Two passes still, and is read alike. Assumes nothing.
 use mathlib.Core.Path.{_≡_, refl, sym, ap, subst, subst₂, _∙_}
 use mathlib.Core.Bool.{Bool, false}
 use mathlib.Core.List.{List, [], _∷_}
@@ -11,11 +11,11 @@ use Rattle.judge.specs.declared.Verdict.the-variants.{Passed}
 use Rattle.command.specs.Kinds.{kindOf, headOf}
 use Rattle.command.specs.Order.{Command, mediaSinceFlush, stateOf}
 use Rattle.command.proofs.Order.{state-tells}
-use Rattle.judge.proofs.Before.{still-passes, before-flushed, passed-before}
+use Rattle.judge.proofs.FullFlush.{still-passes, before-flushed, passed-before}
 use Rattle.reading.specs.Reading.{Stop, ended, stopped, Whole, Reading, reading, readingOf}
 use Rattle.reading.specs.EndToEnd.{commandIn, verdictIn, Stands, EndToEnd, usedUp, faulty}
 use Rattle.reading.specs.EndToEnd as laid
-use Rattle.reading.specs.Before.{verdictBefore, PassedBefore, last, next, FullyFlushed, NothingLost}
+use Rattle.reading.specs.FullFlush.{verdictByFullFlush, PassedByFullFlush, last, next, FullyFlushed, NothingLost}
 use Rattle.reading.proofs.EndToEnd.{stands-at, reading-laid, laid-reading}
 
 -- one command, by both rules
@@ -26,21 +26,21 @@ module _ (target : Target) (b : List ℕ) (cs : List Command) (at : ℕ) where
   abbrev k : ℕ
   k = kindOf (target .chip) (getD l 0 0)
 
-  still-faultless : verdictBefore target b cs at ≡ Passed → verdictIn target b cs at ≡ Passed
+  still-faultless : verdictByFullFlush target b cs at ≡ Passed → verdictIn target b cs at ≡ Passed
   still-faultless = still-passes k (length l) (headOf k l) (stateOf target cs)
 
-  was-flushed : verdictBefore target b cs at ≡ Passed → k ≡ 3 → mediaSinceFlush cs ≡ false
+  was-flushed : verdictByFullFlush target b cs at ≡ Passed → k ≡ 3 → mediaSinceFlush cs ≡ false
   was-flushed e q = sym (state-tells target cs .media) ∙ before-flushed k (length l) (headOf k l) (stateOf target cs) e q
 
-  faultless-before : verdictIn target b cs at ≡ Passed → (k ≡ 3 → mediaSinceFlush cs ≡ false) → verdictBefore target b cs at ≡ Passed
+  faultless-before : verdictIn target b cs at ≡ Passed → (k ≡ 3 → mediaSinceFlush cs ≡ false) → verdictByFullFlush target b cs at ≡ Passed
   faultless-before e p = passed-before k (length l) (headOf k l) (stateOf target cs) e (λ q. state-tells target cs .media ∙ p q)
 
-still-laid : (target : Target) (b : List ℕ) {cs : List Command} {at : ℕ} {xs : List Command} {d : ℕ} → PassedBefore target b cs at xs d
+still-laid : (target : Target) (b : List ℕ) {cs : List Command} {at : ℕ} {xs : List Command} {d : ℕ} → PassedByFullFlush target b cs at xs d
     → EndToEnd target b cs at xs (ended d)
 still-laid target b (last {cs} {at} p v q) = laid.last p (stands-at target b cs at p (still-faultless target b cs at v)) q
 still-laid target b (next {cs} {at} p v n r) = laid.next p (stands-at target b cs at p (still-faultless target b cs at v)) n (still-laid target b r)
 
-all-flushed : (target : Target) (b : List ℕ) {cs : List Command} {at : ℕ} {xs : List Command} {d : ℕ} → PassedBefore target b cs at xs d
+all-flushed : (target : Target) (b : List ℕ) {cs : List Command} {at : ℕ} {xs : List Command} {d : ℕ} → PassedByFullFlush target b cs at xs d
     → FullyFlushed cs xs
 all-flushed target b (last {cs} {at} p v q) = (was-flushed target b cs at v, tt)
 all-flushed target b (next {cs} {at} p v n r) = (was-flushed target b cs at v, all-flushed target b r)
@@ -50,18 +50,18 @@ dwords-of (ended d) = d
 dwords-of (stopped m p) = 0
 
 laid-before : (target : Target) (b : List ℕ) {cs : List Command} {at : ℕ} {xs : List Command} {stop : Stop} → EndToEnd target b cs at xs stop
-    → (d : ℕ) → stop ≡ ended d → FullyFlushed cs xs → PassedBefore target b cs at xs d
+    → (d : ℕ) → stop ≡ ended d → FullyFlushed cs xs → PassedByFullFlush target b cs at xs d
 laid-before target b (usedUp {cs}) d e f = absurd (subst Whole (sym e) tt)
 laid-before target b (faulty {cs} {at} {m} {s} p v) d e f = absurd (subst Whole (sym e) tt)
 laid-before target b (laid.last {cs} {at} {c} p s q) d e f =
     let k : commandIn target b cs at .kind ≡ c .kind = ap (λ (x : Command). x .kind) (sym (s .is)) in
-    subst₂ (λ (x : Command) (n : ℕ). PassedBefore target b cs at (x ∷ []) n) (sym (s .is)) (ap dwords-of e)
+    subst₂ (λ (x : Command) (n : ℕ). PassedByFullFlush target b cs at (x ∷ []) n) (sym (s .is)) (ap dwords-of e)
     (last p (faultless-before target b cs at (s .faultless) (λ z. f .0 (sym k ∙ z))) (k ∙ q))
 laid-before target b (laid.next {cs} {at} {c} {rest} {stop} p s n r) d e f =
     let k : commandIn target b cs at .kind ≡ c .kind = ap (λ (x : Command). x .kind) (sym (s .is)) in
-    subst (λ (x : Command). PassedBefore target b cs at (x ∷ rest) d) (sym (s .is))
+    subst (λ (x : Command). PassedByFullFlush target b cs at (x ∷ rest) d) (sym (s .is))
     (next p (faultless-before target b cs at (s .faultless) (λ z. f .0 (sym k ∙ z))) (λ z. n (sym k ∙ z))
-    (subst (λ (x : Command). PassedBefore target b (x ∷ cs) (at + x .total) rest d) (s .is) (laid-before target b r d e (f .1))))
+    (subst (λ (x : Command). PassedByFullFlush target b (x ∷ cs) (at + x .total) rest d) (s .is) (laid-before target b r d e (f .1))))
 
 -- LAW
 pub nothing-lost : NothingLost
@@ -69,7 +69,7 @@ nothing-lost =
     record {
       still = λ target b cs d r. laid-reading target b cs (ended d) (still-laid target b r);
       flushed = λ target b cs d r. all-flushed target b r;
-      noMore =
+      others =
           λ target b cs d e f.
           laid-before target b
           (subst (λ (r : Reading). EndToEnd target b [] 0 (r .passed) (r .stop)) e (reading-laid target b)) d refl f;
