@@ -1,5 +1,5 @@
 -- What commands set, one at a time, is what their list says. Assumes nothing.
-use mathlib.Core.Path.{_≡_, refl, sym, ap, subst, _∙_}
+use mathlib.Core.Path.{_≡_, refl, sym, ap, _∙_}
 use mathlib.Core.Bool.{Bool, true, false, cond, _||_}
 use Prim.Native.Nat.{ℕ, _+_}
 use native.Mathlib.Numerals.{add-one}
@@ -7,7 +7,7 @@ use mathlib.Core.List.{List, [], _∷_, _++_}
 use lib.ListN.{getD}
 use lib.Dec.{leb, eqb}
 use borrow.Author.Tests.{eqb-true, eq-eqb}
-use Rattle.laws.proofs.Choices.{by-test, not-both}
+use Rattle.laws.proofs.Choices.{not-both}
 use Rattle.chips.specs.declared.Target.{Target}
 use Rattle.command.specs.declared.State.{State}
 use Rattle.command.specs.Order.{Command, among, since, flag, isSet, standsSince, earlierVfe, mediaKinds, fullFlush, eitherFlush, objectKinds, mediaSinceFlush, mediaSinceEither, objectSinceFlush, countLoaded, stateInForce, vfeInForce, objectCount, stateOf, StateTells, withMedia, stateFlushed, standingAfter, stateAfter}

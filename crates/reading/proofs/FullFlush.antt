@@ -1,19 +1,17 @@
 -- A batch that passed by the rule before document 02's Two passes still, and is read alike. Assumes nothing.
 use mathlib.Core.Path.{_≡_, refl, sym, ap, subst, subst₂, _∙_}
-use mathlib.Core.Bool.{Bool, false}
+use mathlib.Core.Bool.{false}
 use mathlib.Core.List.{List, [], _∷_}
-use Prim.Native.Nat.{ℕ, zero, suc, _+_, _<_}
-use native.Mathlib.Omega.{arith}
+use Prim.Native.Nat.{ℕ, _+_}
 use lib.ListN.{length, getD, drop}
 use Rattle.chips.specs.declared.Target.{Target}
-use Rattle.judge.specs.declared.Verdict.{Verdict}
 use Rattle.judge.specs.declared.Verdict.the-variants.{Passed}
 use Rattle.command.specs.Kinds.{kindOf, headOf}
 use Rattle.command.specs.Order.{Command, mediaSinceFlush, stateOf}
 use Rattle.command.proofs.Order.{state-tells}
 use Rattle.judge.proofs.FullFlush.{still-passes, before-flushed, passed-before}
-use Rattle.reading.specs.Reading.{Stop, ended, stopped, Whole, Reading, reading, readingOf}
-use Rattle.reading.specs.EndToEnd.{commandIn, verdictIn, Stands, EndToEnd, usedUp, faulty}
+use Rattle.reading.specs.Reading.{Stop, ended, stopped, Whole, Reading}
+use Rattle.reading.specs.EndToEnd.{commandIn, verdictIn, EndToEnd, usedUp, faulty}
 use Rattle.reading.specs.EndToEnd as laid
 use Rattle.reading.specs.FullFlush.{verdictByFullFlush, PassedByFullFlush, last, next, FullyFlushed, NothingLost}
 use Rattle.reading.proofs.EndToEnd.{stands-at, reading-laid, laid-reading}

@@ -2,7 +2,7 @@ use Prim.Native.Nat.{_/_}
 use lib.ListN.{getD}
 use Rattle.judge.proofs.Verdicts.{vfe-can, product-fits, rows-fit}
 use Rattle.laws.proofs.BitRanges.{coded}
-use borrow.Author.Tests.{eq-eqb, le-ltb, lt-ltb, ne-eqb}
+use borrow.Author.Tests.{le-ltb, lt-ltb}
 use borrow.Author.Needs.{needs}
 use Rattle.judge.proofs.vfe.Statement.{statement}
 use Rattle.judge.proofs.vfe.Tie as tie
