@@ -6,11 +6,11 @@ use native.Mathlib.Numerals.{add-one}
 use mathlib.Core.List.{List, [], _∷_, _++_}
 use lib.ListN.{getD}
 use lib.Dec.{leb, eqb}
-use borrow.Author.Tests.{eqb-true, eq-eqb}
+use borrow.Author.Tests.{eqb-true, ne-eqb}
 use Rattle.laws.proofs.Choices.{not-both}
 use Rattle.chips.specs.declared.Target.{Target}
 use Rattle.command.specs.declared.State.{State}
-use Rattle.command.specs.Order.{Command, among, since, flag, isSet, standsSince, earlierVfe, mediaKinds, fullFlush, eitherFlush, objectKinds, mediaSinceFlush, mediaSinceEither, objectSinceFlush, countLoaded, stateInForce, vfeInForce, objectCount, stateOf, StateTells, withMedia, stateFlushed, standingAfter, stateAfter}
+use Rattle.command.specs.Order.{Command, among, since, flag, isSet, standsSince, earlierVfe, mediaKinds, fullFlush, eitherFlush, objectKinds, mediaSinceFlush, mediaSinceEither, objectSinceFlush, NoStateFlush, countLoaded, stateInForce, vfeInForce, objectCount, stateOf, StateTells, withMedia, stateFlushed, standingAfter, stateAfter}
 
 flag-since : (kinds last : List ℕ) (k : ℕ) (t : Bool) → flag (since false true kinds last k t) ≡ since 0 1 kinds last k (flag t)
 flag-since kinds last k t = go (among k last) (among k kinds)
@@ -61,6 +61,12 @@ none-stands k kinds last (c ∷ cs) m e =
     go false b true p ih e = absurd (not-both true refl e)
     go false true false p ih e = absurd (not-both false (p refl) refl)
     go false false false p ih e = ih e
+
+-- where no state flush stands, either flush is an MI_FLUSH
+pub no-state-flush : (cs : List Command) → NoStateFlush cs → mediaSinceEither cs ≡ mediaSinceFlush cs
+unfolding standsSince
+no-state-flush [] n = refl
+no-state-flush (c ∷ cs) n = simp (ne-eqb (c .kind) 6 (n .0), no-state-flush cs (n .1))
 
 -- What stands, as one number: three flags of which each says those before it.
 pub record Nested (full either object : Bool) : Type 0 where
@@ -132,17 +138,6 @@ standing-after k a b o n =
 pub state-after : (target : Target) (c : Command) (cs : List Command) → stateOf target (c ∷ cs) ≡ stateAfter (c .kind) (c .head) (stateOf target cs)
 unfolding stateOf stateAfter standsSince countLoaded stateInForce vfeInForce objectCount
 state-after target c cs = simp (add-one, flag-since (3 ∷ []) [] (c .kind) (earlierVfe cs), dword-of, standing-after (c .kind) _ _ _ (nested cs))
-
--- the VFE state in force is that of the nearest VFE
-pub nearest-vfe : (xs : List Command) (c : Command) (ys : List Command) → earlierVfe xs ≡ false → c .kind ≡ 3 → stateInForce (xs ++ (c ∷ ys)) ≡ c .head
-unfolding standsSince stateInForce
-nearest-vfe [] c ys e k = simp (eq-eqb _ _ k)
-nearest-vfe (x ∷ xs) c ys e k = go (eqb (x .kind) 3) (λ n. nearest-vfe xs c ys n k) e
-  where
-    go : (t : Bool) → (earlierVfe xs ≡ false → stateInForce (xs ++ (c ∷ ys)) ≡ c .head) → cond (t || false) true (earlierVfe xs) ≡ false
-        → cond t (x .head) (stateInForce (xs ++ (c ∷ ys))) ≡ c .head
-    go true ih e = absurd (not-both true refl e)
-    go false ih e = ih e
 
 pub after-kind : (k n : ℕ) (h : List ℕ) (st r : State) → k ≡ n → r ≡ stateAfter n h st → r ≡ stateAfter k h st
 after-kind k n h st r p e = e ∙ ap (λ (x : ℕ). stateAfter x h st) (sym p)

@@ -65,6 +65,11 @@ objectKinds = 7 ∷ []
 abbrev pub objectSinceFlush : List Command → Bool
 objectSinceFlush cs = standsSince objectKinds eitherFlush cs
 
+-- no state flush is among them
+abbrev pub NoStateFlush : List Command → Type 0
+NoStateFlush [] = Unit
+NoStateFlush (c ∷ cs) = (c .kind ≡ 6 → ⊥) × NoStateFlush cs
+
 -- "the count last loaded; a VFE keeps that count"
 unfoldable pub countLoaded : List Command → ℕ
 countLoaded [] = 0

@@ -18,11 +18,11 @@ use Rattle.masks.specs.MustBeZero.{marks, markedBits}
 use Rattle.command.specs.declared.State.{State}
 use Rattle.command.specs.Fields.{dword, urbEntries, entrySize, curbeSize}
 use Rattle.command.specs.Order.{Command, earlierVfe, mediaSinceFlush, mediaSinceEither, stateInForce, mediaStands, mediaStandsEither, stateOf}
-use Rattle.command.proofs.Order.{set-flag, fewer-stand, nearest-vfe, state-tells, state-chip, state-capacity}
+use Rattle.command.proofs.Order.{set-flag, fewer-stand, state-tells, state-chip, state-capacity}
 use Rattle.judge.specs.declared.Verdict.{Verdict}
 use Rattle.judge.specs.declared.Verdict.the-variants.{Fault, Passed}
 use Rattle.judge.specs.Refusals.{headerRows, mustBeZero, Facts, factsBy, ownRowsBy, scoreboardOnly, withoutFlush, judgeOf, judgeByFullFlush}
-use Rattle.judge.specs.Flushes.{stands, sameBelow5, factsIn, ScoreboardOnly, Otherwise, noVfe, differs, Past8, Flushes}
+use Rattle.judge.specs.Flushes.{stands, sameBelow5, factsIn, InForce, none, here, further, ScoreboardOnly, Otherwise, noVfe, differs, Past8, Flushes}
 use Rattle.judge.proofs.Verdicts.{and-false}
 use Rattle.judge.proofs.FullFlush.{other-kind}
 
@@ -100,6 +100,15 @@ compared h cs v =
     (λ n. inr (differs 2 (omega arith) (omega arith) (eqb-false _ _ n))))
     (λ n. inr (differs 1 (omega arith) (omega arith) (eqb-false _ _ n)))
 
+in-force : (cs : List Command) → InForce cs (stateInForce cs)
+unfolding stateInForce
+in-force [] = none
+in-force (c ∷ cs) = go (eqb (c .kind) 3) refl (in-force cs)
+  where
+    go : (t : Bool) → eqb (c .kind) 3 ≡ t → InForce cs (stateInForce cs) → InForce (c ∷ cs) (cond t (c .head) (stateInForce cs))
+    go true q ih = here (eqb-true (c .kind) 3 q)
+    go false q ih = further (eqb-false (c .kind) 3 q) ih
+
 -- on either chip the marked bits of dword 5 are 29:8
 marked-five : (c : Chip) (d : ℕ) → anySet (markedBits c 3 5) d ≡ not (eqb (field (bits 29 8) d) 0)
 unfolding markedBits marks anySet
@@ -157,7 +166,7 @@ flushes =
       scoreboardOnly = λ h cs s. ap (λ (t : Bool). cond t (stands (1 ∷ 6 ∷ []) cs) (stands (1 ∷ []) cs)) (same-only-true h cs s);
       otherwise = λ h cs o. ap (λ (t : Bool). cond t (stands (1 ∷ 6 ∷ []) cs) (stands (1 ∷ []) cs)) (same-only-false h cs o);
       noThird = λ h cs. by-test (earlierVfe cs) (compared h cs) (λ e. inr (noVfe e));
-      inForce = nearest-vfe;
+      inForce = in-force;
       dwordFive = marked-five;
       oneRow = λ k left h st. one-row left h st k;
     }

@@ -36,6 +36,11 @@ module _ (k left : ℕ) (h : List ℕ) (st : State) where
       (λ q. ap (λ (x : Bool). firstRow Passed (rows x)) (p (eqb-true k 3 q) ∙ sym (flushed-passed t e (eqb-true k 3 q))) ∙ e)
       (λ q. other-kind t t′ q ∙ e)
 
+  -- what passes has its flush, if it is a VFE
+  pub passed-flushed : judgeOf k left h st ≡ Passed → k ≡ 3 → withoutFlush h st ≡ false
+  unfolding judgeOf
+  passed-flushed e = flushed-passed (withoutFlush h st) e
+
   -- LAWS: what passed before passes still ..
   pub still-passes : judgeByFullFlush k left h st ≡ Passed → judgeOf k left h st ≡ Passed
   unfolding judgeByFullFlush judgeOf

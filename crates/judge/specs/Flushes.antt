@@ -50,6 +50,12 @@ factsIn target h cs =
       capacity = target .capacity;
     }
 
+-- "the VFE state in force" after a list of commands: the own dwords of the nearest VFE, and none where there is no VFE
+pub data InForce : List Command → List ℕ → Type 0 where
+  none : InForce [] []
+  here : {c : Command} {ys : List Command} → c .kind ≡ 3 → InForce (c ∷ ys) (c .head)
+  further : {x : Command} {xs : List Command} {h : List ℕ} → (x .kind ≡ 3 → ⊥) → InForce xs h → InForce (x ∷ xs) h
+
 -- a VFE with own dwords h: "only scoreboard enable, type, mask or deltas differ from the VFE state in force"
 pub record ScoreboardOnly (h : List ℕ) (cs : List Command) : Type 0 where
   pub vfe : earlierVfe cs ≡ true
@@ -75,9 +81,8 @@ pub record Flushes : Type 0 where
   pub otherwise : (h : List ℕ) (cs : List Command) → Otherwise h cs → unflushedIn h cs ≡ stands (1 ∷ []) cs
   -- there is no third
   pub noThird : (h : List ℕ) (cs : List Command) → ScoreboardOnly h cs ⊎ Otherwise h cs
-  -- the VFE in force is the nearest one before
-  pub inForce : (xs : List Command) (c : Command) (ys : List Command) → earlierVfe xs ≡ false → c .kind ≡ 3
-      → stateInForce (xs ++ (c ∷ ys)) ≡ c .head
+  -- what is compared with is the VFE state in force
+  pub inForce : (cs : List Command) → InForce cs (stateInForce cs)
   -- What dwords 1 to 4 leave is enable, type, mask and deltas: of dword 5 row 6 judges just the bits that are none of these, on either
   -- chip; dwords 6 and 7 have the deltas alone.
   pub dwordFive : (c : Chip) (d : ℕ) → anySet (markedBits c 3 5) d ≡ not (eqb (field (bits 29 8) d) 0)

@@ -10,7 +10,7 @@ use Rattle.chips.specs.declared.Target.{Target}
 use Rattle.judge.specs.declared.Verdict.{Verdict}
 use Rattle.judge.specs.declared.Verdict.the-variants.{Passed}
 use Rattle.command.specs.Kinds.{kindOf, headOf}
-use Rattle.command.specs.Order.{Command, mediaSinceFlush, stateOf}
+use Rattle.command.specs.Order.{Command, mediaSinceFlush, NoStateFlush, stateOf}
 use Rattle.judge.specs.Refusals.{judgeByFullFlush}
 use Rattle.reading.specs.Reading.{ended, reading, readingOf}
 use Rattle.reading.specs.EndToEnd.{commandIn}
@@ -41,4 +41,7 @@ pub record NothingLost : Type 0 where
   -- and of the batches that pass, those passed before, and no others, that have each VFE fully flushed
   pub flushed : (target : Target) (b : List ℕ) (cs : List Command) (d : ℕ) → PassedByFullFlush target b [] 0 cs d → FullyFlushed [] cs
   pub others : (target : Target) (b : List ℕ) (cs : List Command) (d : ℕ) → readingOf target b ≡ reading cs (ended d) → FullyFlushed [] cs
+      → PassedByFullFlush target b [] 0 cs d
+  -- without a state flush the rule is what it was: what passes so passed before, whatever else it holds
+  pub unchanged : (target : Target) (b : List ℕ) (cs : List Command) (d : ℕ) → readingOf target b ≡ reading cs (ended d) → NoStateFlush cs
       → PassedByFullFlush target b [] 0 cs d
