@@ -19,7 +19,7 @@ pub struct Answer {
     pub dwords: u64,
 }
 
-fn refused(number: u32, place: usize) -> Answer
+pub fn refused(number: u32, place: usize) -> Answer
     ensures { λ r. ⌜ r ≡ refusedAnswer number place ⌝ }
 {
     Answer {
@@ -30,7 +30,7 @@ fn refused(number: u32, place: usize) -> Answer
     }
 }
 
-fn accepted(commands: usize, dwords: usize) -> Answer
+pub fn accepted(commands: usize, dwords: usize) -> Answer
     ensures { λ r. ⌜ r ≡ acceptedAnswer commands dwords ⌝ }
 {
     Answer {

@@ -35,6 +35,10 @@ as-kind k n l r p e = e ∙ ap (λ (x : ℕ). headOf x l) (sym p)
 pub own-at : (k n m : ℕ) (l : List ℕ) (at d : ℕ) → ownDwords n ≡ m → k ≡ n → DwordsAt l at (ownDwords k) d → DwordsAt l at m d
 own-at k n m l at d o e p = subst (λ (x : ℕ). DwordsAt l at x d) (ap ownDwords e ∙ o) p
 
+-- how many own dwords a kind has, by its number
+pub own-as : (k n m : ℕ) → ownDwords n ≡ m → k ≡ n → m ≡ ownDwords k
+own-as k n m o e = sym (ap ownDwords e ∙ o)
+
 -- every command has a dword of its own
 pub own-pos : (k : ℕ) → 0 < ownDwords k
 unfolding ownDwords
@@ -52,7 +56,7 @@ module _ (k : ℕ) (n3 : k ≡ 3 → ⊥) (n4 : k ≡ 4 → ⊥) (n5 : k ≡ 5 �
   unfolding lengthAllowed
   none-allowed n l = simp (le-ltb k 3 l, ne-eqb k 7 n7, no-media)
 
-  own-one : ownDwords k ≡ 1
+  pub own-one : ownDwords k ≡ 1
   unfolding ownDwords
   own-one = simp (ne-eqb k 7 n7, no-media)
 

@@ -1,6 +1,6 @@
 // A command's first dword, and the dwords of its own.
 ghost use mathlib.Core.Path.{_≡_};
-ghost use Prim.Native.Nat.{_<_};
+ghost use Prim.Native.Nat.{_<_, _≤_};
 ghost use lib.ListN.{drop};
 ghost use Rattle.words.specs.Dwords.{lent};
 ghost use mathlib.Core.Bool.{cond};
@@ -132,6 +132,21 @@ fn short_dwords(dw: &[u32], by: &[u8], at: usize, d: u32) -> [u32; 8]
     ensures { λ r. ⌜ r ≡ headOf 6 (drop at (lent (dw .entry) (by .entry))) ⌝ }
 {
     [d, word(dw, by, at + 1), 0, 0, 0, 0, 0, 0]
+}
+
+// How many dwords a command of kind k has of its own: eight at most.
+pub fn own_count(k: u32) -> usize
+    ensures { λ r. ⌜ (r ≡ ownDwords k) × (r ≤ 8) ⌝ }
+{
+    match k {
+        7 => 6,
+        3 => 8,
+        4 => 4,
+        5 => 4,
+        6 => 2,
+        8 => 2,
+        _ => 1,
+    }
 }
 
 // The own dwords of the command of kind k at a place, whose first dword is d.

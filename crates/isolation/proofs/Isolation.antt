@@ -9,6 +9,7 @@ use Rattle.words.specs.Dwords.{dwordsOf}
 use Rattle.reading.specs.Isolation.{Alike, BytesAlike}
 use Rattle.reading.proofs.Isolation.{alike-reading, bytes-alike}
 use Rattle.batch.proofs.Isolation as batch
+use Rattle.feed.proofs.Chunked.{chunked, same-cut}
 use Rattle.scoreboard.proofs.Isolation.{alike-order, alike-bytes-order}
 use Rattle.replay_claims.proofs.Isolation.{isolated}
 use Rattle.replay_claims.proofs.Guards as recording
@@ -50,9 +51,11 @@ isolation =
           record {
             dwords = same;
             bytes = bytes-same;
+            chunks = same-cut;
             listing = λ chip input input′ text h. record { bytes = alike-text chip input input′ h; buffer = alike-buffer chip input input′ h text };
           };
       batchWords = batch.guards;
+      cuttingWords = chunked .guards;
       chipWords =
           record {
             named = λ c capacity b b′ h. for-named (λ x. Alike (targetOf x capacity) b b′) c h;

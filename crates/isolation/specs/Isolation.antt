@@ -11,6 +11,8 @@ use Rattle.reading.specs.Reading.{readingOf}
 use Rattle.reading.specs.Isolation.{Alike, BytesAlike}
 use Rattle.batch.specs.Answers.{answerOf, recordsOf, bytesAnswerOf, bytesRecordsOf}
 use Rattle.batch.specs.Isolation as checks
+use Rattle.feed.specs.Cutting as cuttings
+use Rattle.feed.specs.Cutting.{Call, joined, SameCut}
 use Rattle.scoreboard.specs.Answers.{orderOf, bytesOrderOf}
 use Rattle.replay_claims.specs.Isolation as replays
 use Rattle.replay_claims.specs.Isolation.{Outside, Isolated}
@@ -67,6 +69,9 @@ pub record Batches : Type 0 where
   pub dwords : (chip capacity : ℕ) (b b′ run r states : List ℕ) → AlikeFor chip capacity b b′ → Same chip capacity b b′ run r states
   pub bytes : (chip capacity : ℕ) (b b′ run r states : List ℕ) → BytesAlikeFor chip capacity b b′
       → BytesSame chip capacity b b′ run r states
+  -- document 02, Three, "Demand 3 holds here too": each batch cut in its own way, then any calls, which are refused with 19
+  pub chunks : (chip capacity : ℕ) (cut cut′ : List (List ℕ)) (last last′ r : List ℕ) (late late′ : List Call)
+      → AlikeFor chip capacity (joined cut last) (joined cut′ last′) → SameCut chip capacity cut cut′ last last′ r late late′
   pub listing : (chip : Chip) (input input′ text : List ℕ) → BytesAlike (targetOf chip 2048) input input′
       → ListedSame chip input input′ text
 
@@ -75,4 +80,6 @@ pub record Isolation : Type 0 where
   pub recordingWords : replays.Guards
   pub batches : Batches
   pub batchWords : checks.Guards
+  -- every cutting of every batch is among those
+  pub cuttingWords : cuttings.Guards
   pub chipWords : ChipGuards

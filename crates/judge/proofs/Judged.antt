@@ -114,16 +114,27 @@ abbrev pub inRange : Verdict → Bool
 inRange (Fault m s) = leb 3 m && leb m 9
 inRange Passed = true
 
--- row by row, one computed test
-abbrev all-in : List (Row Verdict) → Bool
-all-in [] = true
-all-in (r ∷ rs) = inRange (r .gives) && all-in rs
+-- a fault's place is one of its command's first eight dwords
+abbrev pub isEarly : Verdict → Bool
+isEarly (Fault m s) = leb s 7
+isEarly Passed = true
 
-each : (rs : List (Row Verdict)) → T (all-in rs) → EachRow (λ (v : Verdict). T (inRange v)) rs
-each [] t = tt
-each (r ∷ rs) t = ((λ _. both-left (inRange (r .gives)) (all-in rs) t), each rs (both-right (inRange (r .gives)) (all-in rs) t))
+-- row by row, one computed test
+module _ (p : Verdict → Bool) where
+  abbrev all-in : List (Row Verdict) → Bool
+  all-in [] = true
+  all-in (r ∷ rs) = p (r .gives) && all-in rs
+
+  each : (rs : List (Row Verdict)) → T (all-in rs) → EachRow (λ (v : Verdict). T (p v)) rs
+  each [] t = tt
+  each (r ∷ rs) t = ((λ _. both-left (p (r .gives)) (all-in rs) t), each rs (both-right (p (r .gives)) (all-in rs) t))
 
 pub fault-number : (k left : ℕ) (h : List ℕ) (st : State) → T (inRange (judgeOf k left h st))
 unfolding judgeOf
 fault-number k left h st =
-    let rs = headerRows k (dword h 0) left ++ ownRows (st .chip) k h st in by-rows (λ (v : Verdict). T (inRange v)) Passed rs tt (each rs tt)
+    let rs = headerRows k (dword h 0) left ++ ownRows (st .chip) k h st in by-rows (λ (v : Verdict). T (inRange v)) Passed rs tt (each inRange rs tt)
+
+pub fault-early : (k left : ℕ) (h : List ℕ) (st : State) → T (isEarly (judgeOf k left h st))
+unfolding judgeOf
+fault-early k left h st =
+    let rs = headerRows k (dword h 0) left ++ ownRows (st .chip) k h st in by-rows (λ (v : Verdict). T (isEarly v)) Passed rs tt (each isEarly rs tt)

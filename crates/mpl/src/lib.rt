@@ -2,6 +2,9 @@
 ghost use mathlib.Core.Path.{_≡_};
 ghost use Rattle.deltas.specs.InPlay.{inPlay, counted};
 ghost use Rattle.batch.specs.Answers.{answerOf, recordsOf, bytesAnswerOf, bytesRecordsOf};
+ghost use mathlib.Core.Bool.{not};
+ghost use lib.Dec.{eqb};
+ghost use Rattle.feed.specs.Feeding.{outcome, feedOf};
 ghost use Rattle.scoreboard.specs.Answers.{orderOf, bytesOrderOf};
 ghost use Rattle.gateway.specs.Replay.{replayOf};
 
@@ -31,6 +34,22 @@ pub extern "C" fn mpl_check_batch_dwords(
         × (now (records .exit) ≡ recordsOf chip capacity (now (batch .entry)) (now (records .entry))) ⌝ }
 {
     batch::check(chip, batch, capacity, records)
+}
+
+// The batch check fed chunk by chunk: `last` is not 0 for the last chunk.
+#[no_mangle]
+pub extern "C" fn mpl_feed(
+    chip: u32,
+    carried: feed::Carried,
+    chunk: &[u32],
+    last: u32,
+    capacity: u32,
+    records: &mut [u32],
+) -> feed::Fed
+    ensures { λ r. ⌜ outcome r (now (records .exit))
+        ≡ feedOf chip capacity carried (now (chunk .entry)) (not (eqb last 0)) (now (records .entry)) ⌝ }
+{
+    feed::feed(chip, carried, chunk, last != 0, capacity, records)
 }
 
 // How many of the eight deltas are in play for an object, and the lowest of them.

@@ -87,7 +87,7 @@ fn as_step(at: usize, turn: Turn) -> Step
 }
 
 // Does a command of t dwords with the first dword d stand at a place?
-fn repeated(dw: &[u32], by: &[u8], len: usize, at: usize, t: usize, d: u32) -> bool
+pub fn repeated(dw: &[u32], by: &[u8], len: usize, at: usize, t: usize, d: u32) -> bool
     requires { ⌜ (len ≡ length (lent dw by)) × (at ≤ len) × (1 ≤ t) ⌝ }
     ensures { λ r. ⌜ r ≡ standsAt (lent (dw .entry) (by .entry)) at t d ⌝ }
 {

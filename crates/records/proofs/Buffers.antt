@@ -25,3 +25,7 @@ written-view = written-map putIn set (λ (r : Buffer). r .view) (λ r k v. refl)
 
 pub written-bytes : (cs : List Command) (i : ℕ) (r : Buffer) → written putIn cs i r .bytes ≡ written putLe cs i (r .bytes)
 written-bytes = written-map putIn putLe (λ (r : Buffer). r .bytes) (λ r k v. refl)
+
+-- the words of one record, in the dwords of a lent buffer
+pub words-view : (r : Buffer) (i : ℕ) (ws : List ℕ) (n : ℕ) → putWords putIn r i ws n .view ≡ putWords set (r .view) i ws n
+words-view = words-map putIn set (λ (r : Buffer). r .view) (λ r k v. refl)

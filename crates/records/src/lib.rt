@@ -34,7 +34,7 @@ pub fn slot_of(i: usize, f: usize) -> usize
 }
 
 // Writes the words of record i.
-fn put(rd: &mut [u32], rb: &mut [u8], i: usize, w: [u32; 16])
+pub fn put(rd: &mut [u32], rb: &mut [u8], i: usize, w: [u32; 16])
     requires { ⌜ (16 * i + 16 ≤ length (lent rd rb)) × (i < 2 ^ 32) ⌝ }
     ensures { λ _. ⌜ lentBuffer (rd .exit) (rb .exit) ≡ putWords putIn (lentBuffer (rd .entry) (rb .entry)) i w 16 ⌝ }
 {

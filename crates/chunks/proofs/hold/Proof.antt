@@ -1,0 +1,12 @@
+use mathlib.Core.Path.{refl}
+use Rattle.progress.specs.Steps.{afterEvent}
+use borrow.Author.Needs.{needs}
+use Rattle.chunks.proofs.hold.Statement.{statement}
+use Rattle.chunks.proofs.hold.Tie as tie
+
+returns : tie.Need-returns
+unfolding afterEvent
+returns c = refl
+
+pub hold-spec : {M : Type 1} → statement M
+hold-spec = tie.close (tie.spec returns)

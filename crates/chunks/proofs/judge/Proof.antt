@@ -1,0 +1,37 @@
+use Rattle.chunks.proofs.Leaves.{judges}
+use borrow.Author.Needs.{needs}
+use Rattle.chunks.proofs.judge.Statement.{statement}
+use Rattle.chunks.proofs.judge.Tie as tie
+
+array-read-header-verdict : tie.Need-array-read-header-verdict
+array-read-header-verdict c = search needs
+
+header-verdict-requires : tie.Need-header-verdict-requires
+header-verdict-requires c κs = search needs
+
+enum-known-number : tie.Need-enum-known-number
+enum-known-number c = search needs
+
+enum-told : tie.Need-enum-told
+enum-told c = search needs
+
+own-verdict-requires : tie.Need-own-verdict-requires
+own-verdict-requires c κs = search needs
+
+returns : tie.Need-returns
+returns c = search judges
+
+returns-2 : tie.Need-returns-2
+returns-2 c = search judges
+
+pub judge-spec : {M : Type 1} → statement M
+judge-spec =
+    tie.close
+    (tie.spec
+    array-read-header-verdict
+    header-verdict-requires
+    enum-known-number
+    enum-told
+    own-verdict-requires
+    returns
+    returns-2)

@@ -1,0 +1,460 @@
+-- The claims of the chunked check, for every chip's number. Assumes nothing.
+use mathlib.Core.Path.{_≡_, refl, sym, ap, ap₂, subst, _∙_}
+use mathlib.Core.Logic.{_⊎_, inl, inr}
+use mathlib.Core.Bool.{Bool, true, false, cond, _&&_, _||_}
+use Prim.Native.Nat.{ℕ, _+_, _-_, _*_, _/_, _<_, _≤_}
+use native.Mathlib.Omega.{arith}
+use mathlib.Core.List.{List, [], _∷_, _++_, append-assoc, append-nil}
+use lib.ListN.{length, getD, take, drop, take-append-drop}
+use lib.Seq.{take-append-seam, drop-append-seam}
+use lib.Dec.{T, ltb, leb, eqb}
+use borrow.Author.Tests.{leb-true, eq-eqb, ne-eqb, eqb-true, eqb-false}
+use Rattle.laws.proofs.Choices.{by-test, and-left, and-right}
+use Rattle.chips.specs.declared.Chip.{Chip}
+use Rattle.chips.specs.declared.Target.{Target}
+use Rattle.chips.specs.Chips.{numberOf, targetOf, onChip, Unnamed, ForChip, ByChip, ofNone, ofChip}
+use Rattle.chips.proofs.Chips.{on-named, on-none, by-either, same-number}
+use Rattle.command.specs.Order.{Command}
+use Rattle.reading.specs.Reading.{Stop, ended, stopped, Reading, readingOf}
+use Rattle.reading.specs.Decision.{atStop}
+use Rattle.reading.specs.Isolation.{Alike}
+use Rattle.reading.specs.Vfes.{noCommand}
+use Rattle.reading.proofs.Isolation.{alike-reading}
+use Rattle.batch.specs.declared.Answer.{Answer}
+use Rattle.batch.specs.Answers.{refusedAnswer, acceptedAnswer, answerFor, recordsFor, answerOf, recordsOf}
+use Rattle.batch.proofs.Isolation.{alike-answer}
+use Rattle.progress.specs.declared.Progress.{Progress}
+use Rattle.progress.specs.Steps.{Stage, stage, stageAfter, stopBy, atEnd}
+use Rattle.progress.specs.Fitting.{writtenFit}
+use Rattle.progress.proofs.Stages.{stage-run}
+use Rattle.progress.proofs.Fitted.{written-length, written-other, written-at}
+use Rattle.progress.proofs.Stops.{stopRead, stop-kept, stop-same}
+use Rattle.feed.specs.declared.Carried.{Carried}
+use Rattle.feed.specs.declared.Fed.{Fed}
+use Rattle.feed.specs.Feeding.{fresh, resumed, Taken, Left, left, chunkTaken, refusedBy, afterChunk, answerAt, isStop, usable, saysMore, gives, answered, fedOf, Outcome, outcome, feedOf}
+use Rattle.feed.specs.Cutting.{Call, call, made, leaves, leavesAll, calls, beforeLast, lastMade, afterLast, joined, endWithin, keptIn, recordsKept, Words, Cut, Earlier, Late, Numbered, SameCut, cutAt, lastOf, lengthsOf, Guards, Chunked}
+use Rattle.feed.proofs.Counting.{take-chunk}
+use Rattle.feed.proofs.Feeds.{usable-answered, usable-few, usable-rest-on}
+use Rattle.feed.proofs.Within.{complete}
+use Rattle.feed.proofs.Cuts.{After, after-none, after-usable, after-chunk, room-is, answer-is, kept-are, accepted-are}
+
+-- a call on a carried state that can be gone on from, and on any other
+module _ (chip capacity : ℕ) (c : Carried) (chunk : List ℕ) (last : Bool) (r : List ℕ) where
+  abbrev after : Left
+  after = afterChunk chip capacity c chunk r
+
+  fed-usable : usable c ≡ true → feedOf chip capacity c chunk last r ≡ outcome (fedOf last (length r) (after .carried)) (after .records)
+  unfolding feedOf
+  fed-usable u = simp u
+
+  fed-late : usable c ≡ false → feedOf chip capacity c chunk last r ≡ outcome (gives c (refusedAnswer 19 0)) r
+  unfolding feedOf
+  fed-late u = simp u
+
+  after-named : (ch : Chip) → chip ≡ numberOf ch → after ≡ chunkTaken (targetOf ch capacity) c chunk r
+  unfolding afterChunk
+  after-named ch e = on-named (λ m p. left (refusedBy m p c) r) (λ x. chunkTaken (targetOf x capacity) c chunk r) chip ch e
+
+  after-none-named : Unnamed chip → after ≡ left (refusedBy 18 0 c) r
+  unfolding afterChunk
+  after-none-named u = on-none (λ m p. left (refusedBy m p c) r) (λ x. chunkTaken (targetOf x capacity) c chunk r) chip u
+
+  by-after : usable c ≡ true → (x : Left) → after ≡ x → feedOf chip capacity c chunk last r ≡ outcome (fedOf last (length r) (x .carried)) (x .records)
+  by-after u x e = fed-usable u ∙ ap (λ (y : Left). outcome (fedOf last (length r) (y .carried)) (y .records)) e
+
+-- what a call that is not the last leaves
+more-leaves : (c : Carried) (n : ℕ) → fedOf false n c .carried ≡ c
+more-leaves c n = refl
+
+-- THE CHIP IS NAMED
+module _ (chip capacity : ℕ) (ch : Chip) (named : chip ≡ numberOf ch) (r : List ℕ) where
+  abbrev target : Target
+  target = targetOf ch capacity
+
+  module _ (b : List ℕ) (w : Left) (h : After target r b w) (chunk : List ℕ) where
+    abbrev x : Left
+    x = chunkTaken target (w .carried) chunk (w .records)
+
+    made-is : (last : Bool) → made w (call chip capacity chunk last) ≡ outcome (fedOf last (length (w .records)) (x .carried)) (x .records)
+    made-is last =
+        by-after chip capacity (w .carried) chunk last (w .records) (after-usable target r b w h) x (after-named chip capacity (w .carried) chunk last (w .records) ch named)
+
+    more-is : leaves w (call chip capacity chunk false) ≡ x
+    more-is = ap (λ (o : Outcome). left (o .fed .carried) (o .records)) (made-is false)
+
+    after-more : After target r (b ++ chunk) (leaves w (call chip capacity chunk false))
+    after-more = subst (After target r (b ++ chunk)) (sym more-is) (after-chunk target r b w h chunk)
+
+  after-calls : (chunks : List (List ℕ)) (b : List ℕ) (w : Left) → After target r b w → After target r (b ++ joined chunks []) (leavesAll w (calls chip capacity chunks))
+  unfolding leavesAll
+  after-calls [] b w h = subst (λ (l : List ℕ). After target r l w) (sym (append-nil b)) h
+  after-calls (chunk ∷ chunks) b w h =
+      subst (λ (l : List ℕ). After target r l (leavesAll (leaves w (call chip capacity chunk false)) (calls chip capacity chunks))) (append-assoc b chunk (joined chunks []))
+      (after-calls chunks (b ++ chunk) (leaves w (call chip capacity chunk false)) (after-more b w h chunk))
+
+  before : (chunks : List (List ℕ)) → After target r (joined chunks []) (beforeLast chip capacity chunks r)
+  before chunks = after-calls chunks [] (left fresh r) (after-none target r)
+
+joined-last : (chunks : List (List ℕ)) (last : List ℕ) → joined chunks [] ++ last ≡ joined chunks last
+joined-last [] last = refl
+joined-last (chunk ∷ chunks) last = append-assoc chunk (joined chunks []) last ∙ ap (λ (l : List ℕ). chunk ++ l) (joined-last chunks last)
+
+-- the record buffer word by word
+words-of : (cs : List Command) (r filled : List ℕ) → filled ≡ writtenFit cs 0 r → Words cs r filled
+words-of cs r filled e =
+    record {
+      recordAt = λ i f p q w.
+          let z : 0 + i ≡ i = omega arith in
+          ap₂ (λ (l : List ℕ) (m : ℕ). getD l (16 * m + f) 0) e (sym z) ∙ written-at cs 0 i r noCommand f p (omega arith) w;
+      untouched = λ p n. ap (λ (l : List ℕ). getD l p 0) e ∙ written-other cs 0 r p (λ a b d. n (omega arith) d);
+      size = ap length e ∙ written-length cs 0 r;
+    }
+
+module _ (chip capacity : ℕ) (ch : Chip) (named : chip ≡ numberOf ch) (r : List ℕ) (chunks : List (List ℕ)) (last : List ℕ) where
+  abbrev tg : Target
+  tg = targetOf ch capacity
+
+  abbrev w : Left
+  w = beforeLast chip capacity chunks r
+
+  abbrev b : List ℕ
+  b = joined chunks last
+
+  abbrev y : Left
+  y = chunkTaken tg (w .carried) last (w .records)
+
+  done : After tg r b y
+  done = subst (λ (l : List ℕ). After tg r l y) (joined-last chunks last) (after-chunk tg r (joined chunks []) w (before chip capacity ch named r chunks) last)
+
+  call-is : (final : Bool) → made w (call chip capacity last final) ≡ outcome (fedOf final (length (w .records)) (y .carried)) (y .records)
+  call-is final = made-is chip capacity ch named r (joined chunks []) w (before chip capacity ch named r chunks) last final
+
+  room : length (w .records) ≡ length r
+  room = room-is tg r (joined chunks []) w (before chip capacity ch named r chunks)
+
+  answer-of : answerOf chip capacity b r ≡ answerFor tg b r
+  unfolding answerOf
+  answer-of = on-named refusedAnswer (λ c. answerFor (targetOf c capacity) b r) chip ch named
+
+  records-of : recordsOf chip capacity b r ≡ recordsFor tg b r
+  unfolding recordsOf
+  records-of = on-named (λ m p. r) (λ c. recordsFor (targetOf c capacity) b r) chip ch named
+
+  kept-of : recordsKept chip capacity b r ≡ writtenFit (keptIn tg b) 0 r
+  kept-of = on-named (λ m p. r) (λ c. writtenFit (keptIn (targetOf c capacity) b) 0 r) chip ch named
+
+  left-kept : y .records ≡ writtenFit (keptIn tg b) 0 r
+  left-kept = kept-are tg r b y done
+
+  records-are : (final : Bool) → made w (call chip capacity last final) .records ≡ writtenFit (keptIn tg b) 0 r
+  records-are final = ap (λ (o : Outcome). o .records) (call-is final) ∙ left-kept
+
+  words-for : ForChip chip (λ c. Words (keptIn (targetOf c capacity) b) r (lastMade chip capacity chunks last r .records))
+  words-for c e =
+      subst (λ (x : Chip). Words (keptIn (targetOf x capacity) b) r (lastMade chip capacity chunks last r .records)) (same-number ch c (sym named ∙ e))
+      (words-of (keptIn tg b) r (lastMade chip capacity chunks last r .records) (records-are true))
+
+  cut-named : Cut chip capacity chunks last r
+  cut-named =
+      record {
+        says = ap (λ (o : Outcome). o .fed .more) (call-is true);
+        answer =
+            ap (λ (o : Outcome). o .fed .answer) (call-is true)
+            ∙ ap (λ (n : ℕ). answerAt n (y .carried)) room ∙ answer-is tg r b y done ∙ sym answer-of;
+        records = records-are true ∙ sym kept-of;
+        words = words-for;
+        unnamed = λ u. absurd (u ch named);
+        accepted = λ e. records-are true ∙ accepted-are tg r b (ap (λ (a : Answer). a .number) (sym answer-of) ∙ e) ∙ sym records-of;
+      }
+
+  earlier-named : Earlier chip capacity chunks last r
+  earlier-named =
+      record {
+        says = ap (λ (o : Outcome). o .fed) (call-is false) ∙ ap saysMore (sym (ap (λ (o : Outcome). o .fed .carried) (call-is false)));
+        records = records-are false ∙ sym kept-of;
+      }
+
+-- NO CHIP IS NAMED
+module _ (chip capacity : ℕ) (none : Unnamed chip) (r : List ℕ) where
+  pub record Idle (w : Left) : Type 0 where
+    pub goes : usable (w .carried) ≡ true
+    pub same : w .records ≡ r
+
+  module _ (w : Left) (h : Idle w) (chunk : List ℕ) where
+    none-made : (last : Bool) → made w (call chip capacity chunk last) ≡ outcome (fedOf last (length (w .records)) (refusedBy 18 0 (w .carried))) (w .records)
+    none-made last =
+        by-after chip capacity (w .carried) chunk last (w .records) (h .goes) (left (refusedBy 18 0 (w .carried)) (w .records))
+        (after-none-named chip capacity (w .carried) chunk last (w .records) none)
+
+    still-usable : usable (refusedBy 18 0 (w .carried)) ≡ true
+    unfolding usable
+    still-usable =
+        let c = w .carried in
+        simp (and-left (eqb (c .answered) 0 && leb (c .dwords) 16385) _ (h .goes))
+
+    idle-more : Idle (leaves w (call chip capacity chunk false))
+    idle-more =
+        record {
+          goes = ap (λ (o : Outcome). usable (o .fed .carried)) (none-made false) ∙ still-usable;
+          same = ap (λ (o : Outcome). o .records) (none-made false) ∙ h .same;
+        }
+
+  idle-calls : (chunks : List (List ℕ)) (w : Left) → Idle w → Idle (leavesAll w (calls chip capacity chunks))
+  unfolding leavesAll
+  idle-calls [] w h = h
+  idle-calls (chunk ∷ chunks) w h = idle-calls chunks (leaves w (call chip capacity chunk false)) (idle-more w h chunk)
+
+  idle-fresh : Idle (left fresh r)
+  unfolding usable
+  idle-fresh = record { goes = refl; same = refl }
+
+  module _ (chunks : List (List ℕ)) (last : List ℕ) where
+    idle : Idle (beforeLast chip capacity chunks r)
+    idle = idle-calls chunks (left fresh r) idle-fresh
+
+    abbrev w₀ : Left
+    w₀ = beforeLast chip capacity chunks r
+
+    abbrev b₀ : List ℕ
+    b₀ = joined chunks last
+
+    none-records : (final : Bool) → made w₀ (call chip capacity last final) .records ≡ r
+    none-records final = ap (λ (o : Outcome). o .records) (none-made w₀ idle last final) ∙ idle .same
+
+    eighteen : (n : ℕ) (c : Carried) → answerAt n (refusedBy 18 0 c) ≡ refusedAnswer 18 0
+    unfolding answerAt
+    eighteen n c = refl
+
+    none-kept : recordsKept chip capacity b₀ r ≡ r
+    none-kept = on-none (λ m p. r) (λ c. writtenFit (keptIn (targetOf c capacity) b₀) 0 r) chip none
+
+    cut-none : Cut chip capacity chunks last r
+    unfolding answerOf recordsOf
+    cut-none =
+        record {
+          says = ap (λ (o : Outcome). o .fed .more) (none-made w₀ idle last true);
+          answer =
+              ap (λ (o : Outcome). o .fed .answer) (none-made w₀ idle last true) ∙ eighteen (length (w₀ .records)) (w₀ .carried)
+              ∙ sym (on-none refusedAnswer (λ c. answerFor (targetOf c capacity) b₀ r) chip none);
+          records = none-records true ∙ sym none-kept;
+          words = λ c e. absurd (none c e);
+          unnamed = λ u. none-records true;
+          accepted = λ e. none-records true ∙ sym (on-none (λ m p. r) (λ c. recordsFor (targetOf c capacity) b₀ r) chip none);
+        }
+
+    earlier-none : Earlier chip capacity chunks last r
+    earlier-none =
+        record {
+          says = ap (λ (o : Outcome). o .fed) (none-made w₀ idle last false) ∙ ap saysMore (sym (ap (λ (o : Outcome). o .fed .carried) (none-made w₀ idle last false)));
+          records = none-records false ∙ sym none-kept;
+        }
+
+-- every number names a chip or none
+by-chips : (n : ℕ) (P : Type 0) → (Unnamed n → P) → ((c : Chip) → n ≡ numberOf c → P) → P
+by-chips n P none known = go (by-either n P (λ c. P) none known)
+  where
+    go : ByChip n P (λ c. P) → P
+    go (ofNone u p) = p
+    go (ofChip c e p) = p
+
+pub cut : (chip capacity : ℕ) (chunks : List (List ℕ)) (last r : List ℕ) → Cut chip capacity chunks last r
+cut chip capacity chunks last r =
+    by-chips chip (Cut chip capacity chunks last r) (λ u. cut-none chip capacity u r chunks last) (λ c e. cut-named chip capacity c e r chunks last)
+
+pub earlier : (chip capacity : ℕ) (chunks : List (List ℕ)) (chunk r : List ℕ) → Earlier chip capacity chunks chunk r
+earlier chip capacity chunks chunk r =
+    by-chips chip (Earlier chip capacity chunks chunk r) (λ u. earlier-none chip capacity u r chunks chunk) (λ c e. earlier-named chip capacity c e r chunks chunk)
+
+-- AFTER AN ANSWER
+module _ (w : Left) (u : usable (w .carried) ≡ false) where
+  refused-made : (c : Call) → made w c ≡ outcome (gives (w .carried) (refusedAnswer 19 0)) (w .records)
+  refused-made c = fed-late (c .chip) (c .capacity) (w .carried) (c .chunk) (c .last) (w .records) u
+
+  refused-leaves : (c : Call) → leaves w c ≡ w
+  refused-leaves c = ap (λ (o : Outcome). left (o .fed .carried) (o .records)) (refused-made c)
+
+refused-all : (late : List Call) (w : Left) → usable (w .carried) ≡ false → leavesAll w late ≡ w
+unfolding leavesAll
+refused-all [] w u = refl
+refused-all (c ∷ cs) w u = ap (λ (x : Left). leavesAll x cs) (refused-leaves w u c) ∙ refused-all cs w u
+
+late-from : (w : Left) → usable (w .carried) ≡ false → (late : List Call) (next : Call) → Late w late next
+late-from w u late next =
+    let e = refused-all late w u in
+    record {
+      unchanged = e;
+      nineteen = ap (λ (x : Left). made x next .fed) e ∙ ap (λ (o : Outcome). o .fed) (refused-made w u next);
+      kept = ap (λ (x : Left). made x next .records) e ∙ ap (λ (o : Outcome). o .records) (refused-made w u next);
+    }
+
+closed : (c : Carried) → usable (answered c) ≡ false
+closed c = sym (usable-answered (answered c) (λ e. omega arith))
+
+-- a call that gives an answer leaves a carried state that none goes on from
+answer-closes : (w : Left) (c : Call) → made w c .fed .more ≡ 0 → usable (leaves w c .carried) ≡ false
+answer-closes w c q =
+    by-test (usable (w .carried))
+    (λ u. ap (λ (o : Outcome). usable (o .fed .carried)) (taken u) ∙ by-last (c .last) (sym (ap (λ (o : Outcome). o .fed .more) (taken u)) ∙ q))
+    (λ u. ap (λ (x : Left). usable (x .carried)) (refused-leaves w u c) ∙ u)
+  where
+    k : Carried
+    k = afterChunk (c .chip) (c .capacity) (w .carried) (c .chunk) (w .records) .carried
+
+    taken : usable (w .carried) ≡ true → made w c ≡ outcome (fedOf (c .last) (length (w .records)) k) (afterChunk (c .chip) (c .capacity) (w .carried) (c .chunk) (w .records) .records)
+    taken u = fed-usable (c .chip) (c .capacity) (w .carried) (c .chunk) (c .last) (w .records) u
+
+    by-last : (t : Bool) → fedOf t (length (w .records)) k .more ≡ 0 → usable (fedOf t (length (w .records)) k .carried) ≡ false
+    by-last true e = closed k
+    by-last false e = absurd (omega arith)
+
+pub late : (w : Left) (c : Call) → made w c .fed .more ≡ 0 → (late : List Call) (next : Call) → Late (leaves w c) late next
+late w c q calls next = late-from (leaves w c) (answer-closes w c q) calls next
+
+-- THE NUMBERS
+abbrev okStop : ℕ → Bool
+okStop n = stopRead n || eqb n 18
+
+module _ (n : ℕ) (ok : okStop n ≡ true) (not18 : n ≡ 18 → ⊥) (not0 : n ≡ 0 → ⊥) (notEnd : n ≡ atEnd → ⊥) where
+  stop-few : n ≤ 10
+  stop-few = go (eqb n 0) (leb 3 n) (leb n 9) (eqb n atEnd) (eqb n 18) refl refl (ne-eqb n 0 not0) (ne-eqb n atEnd notEnd) (ne-eqb n 18 not18) ok
+    where
+      go : (a b c d e : Bool) → leb 3 n ≡ b → leb n 9 ≡ c → a ≡ false → d ≡ false → e ≡ false → (a || (b && c) || d) || e ≡ true → n ≤ 10
+      go a b true d e p q x y z t = let w = leb-true n 9 q in omega arith
+      go true b false d e p q x y z t = let w : _≡_ {A = ℕ} 0 1 = cc in absurd (omega arith)
+      go false true false false false p q x y z t = let w : _≡_ {A = ℕ} 0 1 = cc in absurd (omega arith)
+      go false false false false false p q x y z t = let w : _≡_ {A = ℕ} 0 1 = cc in absurd (omega arith)
+      go false b false true e p q x y z t = let w : _≡_ {A = ℕ} 0 1 = cc in absurd (omega arith)
+      go false b false false true p q x y z t = let w : _≡_ {A = ℕ} 0 1 = cc in absurd (omega arith)
+
+abbrev NumberOf : Answer → Type 0
+NumberOf a = (a .number ≤ 10) ⊎ ((a .number ≡ 18) ⊎ (a .number ≡ 19))
+
+at-stop-number : (room n : ℕ) (s : Stop) → ((m p : ℕ) → s ≡ stopped m p → m ≤ 10) → NumberOf (atStop refusedAnswer acceptedAnswer room n s)
+at-stop-number room n (stopped m p) h = inl (h m p refl)
+at-stop-number room n (ended d) h = go (ltb room (16 * n))
+  where
+    go : (t : Bool) → NumberOf (cond t (refusedAnswer 10 d) (acceptedAnswer n d))
+    go true = inl (omega arith)
+    go false = inl (omega arith)
+
+stop-number : (stop got place : ℕ) → okStop stop ≡ true → (stop ≡ 18 → ⊥) → (m p : ℕ) → stopBy stop got place ≡ stopped m p → m ≤ 10
+unfolding stopBy
+stop-number stop got place ok n m p e =
+    by-test (eqb stop 0)
+    (λ t. by-test (eqb got 0) (λ g. low 2 (simp (t, g) at e) (omega arith)) (λ g. low 5 (simp (t, g) at e) (omega arith)))
+    (λ t. by-test (eqb stop atEnd) (λ f. ends (simp (t, f) at e))
+    (λ f. low stop (simp (t, f) at e) (stop-few stop ok n (eqb-false stop 0 t) (eqb-false stop atEnd f))))
+  where
+    low : (k : ℕ) → stopped k place ≡ stopped m p → k ≤ 10 → m ≤ 10
+    low k q l = let z : k ≡ m = cc in omega arith
+
+    ends : ended place ≡ stopped m p → m ≤ 10
+    ends q = let z : _≡_ {A = ℕ} 0 1 = cc in absurd (omega arith)
+
+answer-number : (room : ℕ) (c : Carried) → okStop (c .stop) ≡ true → NumberOf (answerAt room c)
+unfolding answerAt
+answer-number room c ok =
+    by-test (eqb (c .stop) 18) (λ t. simp t (inr (inl refl)))
+    (λ t. by-test (ltb 16384 (c .dwords)) (λ f. simp (t, f) (inl (omega arith)))
+    (λ f. simp (t, f) (at-stop-number room (c .order .commands) (stopBy (c .stop) (c .got) (c .place))
+    (stop-number (c .stop) (c .got) (c .place) ok (eqb-false (c .stop) 18 t)))))
+
+or-left : (a b : Bool) → a ≡ true → a || b ≡ true
+or-left true b e = refl
+or-left false b e = let z : _≡_ {A = ℕ} 0 1 = cc in absurd (omega arith)
+
+or-swap : (x y z u : Bool) → y || u || z ≡ true → (x || y || z) || u ≡ true
+or-swap true y z u q = refl
+or-swap false true z u q = refl
+or-swap false false true u q = refl
+or-swap false false false true q = refl
+or-swap false false false false q = let e : _≡_ {A = ℕ} 0 1 = cc in absurd (omega arith)
+
+-- whatever is carried, a chunk leaves one of these
+taken-stop : (target : Target) (c : Carried) (chunk r : List ℕ) → usable c ≡ true → okStop (chunkTaken target c chunk r .carried .stop) ≡ true
+unfolding chunkTaken
+taken-stop target c chunk r u =
+    let l = take (16384 - c .dwords) chunk in
+    let p = resumed target c in
+    ap (λ (t : Taken). okStop (t .stage .progress .stop)) (take-chunk chunk (c .dwords) (stage p r) (usable-few c u))
+    ∙ ap (λ (s : Stage). okStop (s .progress .stop)) (stage-run l p r)
+    ∙ by-test (eqb (c .stop) 0)
+    (λ t. or-left _ _ (stop-kept l p (simp t)))
+    (λ t. ap (λ (q : Progress). okStop (q .stop)) (stop-same l p t) ∙ let n = c .stop in or-swap (eqb n 0) (leb 3 n && leb n 9) (eqb n atEnd) (eqb n 18) (usable-rest-on c u t))
+
+after-stop : (chip capacity : ℕ) (c : Carried) (chunk : List ℕ) (last : Bool) (r : List ℕ) → usable c ≡ true → okStop (afterChunk chip capacity c chunk r .carried .stop) ≡ true
+after-stop chip capacity c chunk last r u =
+    by-chips chip (okStop (afterChunk chip capacity c chunk r .carried .stop) ≡ true)
+    (λ n. ap (λ (x : Left). okStop (x .carried .stop)) (after-none-named chip capacity c chunk last r n))
+    (λ ch e. ap (λ (x : Left). okStop (x .carried .stop)) (after-named chip capacity c chunk last r ch e) ∙ taken-stop (targetOf ch capacity) c chunk r u)
+
+pub numbered : (w : Left) (c : Call) → Numbered (made w c .fed)
+numbered w c =
+    by-test (usable (w .carried))
+    (λ u. let k = afterChunk (c .chip) (c .capacity) (w .carried) (c .chunk) (w .records) .carried in
+    subst (λ (o : Outcome). Numbered (o .fed)) (sym (fed-usable (c .chip) (c .capacity) (w .carried) (c .chunk) (c .last) (w .records) u))
+    (by-last k (c .last) (after-stop (c .chip) (c .capacity) (w .carried) (c .chunk) (c .last) (w .records) u)))
+    (λ u. subst (λ (o : Outcome). Numbered (o .fed)) (sym (refused-made w u c)) (inr (inr refl)))
+  where
+    by-last : (k : Carried) (t : Bool) → okStop (k .stop) ≡ true → Numbered (fedOf t (length (w .records)) k)
+    by-last k true ok = answer-number (length (w .records)) k ok
+    by-last k false ok = inl (omega arith)
+
+-- THE GUARDS
+cut-all : (ns b : List ℕ) → joined (cutAt ns b) (lastOf ns b) ≡ b
+cut-all [] b = refl
+cut-all (n ∷ ns) b = ap (λ (l : List ℕ). take n b ++ l) (cut-all ns (drop n b)) ∙ take-append-drop n b
+
+cut-chunks : (chunks : List (List ℕ)) (last : List ℕ) → cutAt (lengthsOf chunks) (joined chunks last) ≡ chunks
+cut-chunks [] last = refl
+cut-chunks (chunk ∷ chunks) last =
+    ap₂ (λ (x y : List ℕ). x ∷ cutAt (lengthsOf chunks) y) (take-append-seam chunk (joined chunks last)) (drop-append-seam chunk (joined chunks last))
+    ∙ ap (_∷_ chunk) (cut-chunks chunks last)
+
+cut-last : (chunks : List (List ℕ)) (last : List ℕ) → lastOf (lengthsOf chunks) (joined chunks last) ≡ last
+cut-last [] last = refl
+cut-last (chunk ∷ chunks) last = ap (lastOf (lengthsOf chunks)) (drop-append-seam chunk (joined chunks last)) ∙ cut-last chunks last
+
+-- THEOREM
+pub chunked : Chunked
+chunked =
+    record {
+      cut = cut;
+      earlier = earlier;
+      late = late;
+      numbered = numbered;
+      guards = record { cut = λ b ns. cut-all ns b; chunks = cut-chunks; last = cut-last; complete = complete };
+    }
+
+-- LAW: demand 3
+module _ (chip capacity : ℕ) (chunks chunks′ : List (List ℕ)) (last last′ r : List ℕ) (calls₁ calls₂ : List Call)
+    (alike : ForChip chip (λ c. Alike (targetOf c capacity) (joined chunks last) (joined chunks′ last′))) where
+  abbrev b₁ : List ℕ
+  b₁ = joined chunks last
+
+  abbrev b₂ : List ℕ
+  b₂ = joined chunks′ last′
+
+  kept-same : recordsKept chip capacity b₁ r ≡ recordsKept chip capacity b₂ r
+  kept-same =
+      by-chips chip (recordsKept chip capacity b₁ r ≡ recordsKept chip capacity b₂ r)
+      (λ u. none-kept chip capacity u r chunks last ∙ sym (none-kept chip capacity u r chunks′ last′))
+      (λ c e. kept-of chip capacity c e r chunks last
+      ∙ ap (λ (x : Reading). writtenFit (endWithin 16384 (x .passed)) 0 r) (alike-reading (targetOf c capacity) b₁ b₂ (alike c e))
+      ∙ sym (kept-of chip capacity c e r chunks′ last′))
+
+  left-late : (cs : List (List ℕ)) (l : List ℕ) (late : List Call) → leavesAll (afterLast chip capacity cs l r) late .records ≡ recordsKept chip capacity (joined cs l) r
+  left-late cs l late =
+      ap (λ (x : Left). x .records)
+      (refused-all late (afterLast chip capacity cs l r) (answer-closes (beforeLast chip capacity cs r) (call chip capacity l true) (cut chip capacity cs l r .says)))
+      ∙ cut chip capacity cs l r .records
+
+  pub same-cut : SameCut chip capacity chunks chunks′ last last′ r calls₁ calls₂
+  same-cut =
+      record {
+        says = cut chip capacity chunks last r .says ∙ sym (cut chip capacity chunks′ last′ r .says);
+        answer =
+            cut chip capacity chunks last r .answer ∙ alike-answer chip capacity b₁ b₂ alike r
+            ∙ sym (cut chip capacity chunks′ last′ r .answer);
+        records = left-late chunks last calls₁ ∙ kept-same ∙ sym (left-late chunks′ last′ calls₂);
+      }

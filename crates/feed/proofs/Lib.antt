@@ -1,0 +1,5 @@
+pub mod Counting
+pub mod Feeds
+pub mod Within
+pub mod Cuts
+pub mod Chunked

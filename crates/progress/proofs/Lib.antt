@@ -1,0 +1,6 @@
+pub mod Gathers
+pub mod Runs
+pub mod Stages
+pub mod Fitted
+pub mod Fold
+pub mod Stops

@@ -1,0 +1,15 @@
+-- Several dwords at once, as the code takes them: proofs/Runs.antt shows each equal to its dwords one by one.
+use Prim.Native.Nat.{ℕ, _+_, _-_}
+use mathlib.Core.Bool.{cond}
+use mathlib.Core.List.{List, [], _∷_}
+use lib.ListN.{set}
+use lib.Dec.{ltb}
+
+-- the own dwords h, of which a command has `most`, after several dwords more, where g of the command have come before them
+unfoldable pub gatheredIn : ℕ → List ℕ → ℕ → List ℕ → List ℕ
+gatheredIn most h g [] = h
+gatheredIn most h g (d ∷ ds) = gatheredIn most (cond (ltb g most) (set h g d) h) (g + 1) ds
+
+-- how many dwords lead to the last of a command of t dwords, of which g have come: one at least
+abbrev pub dwordsLeft : ℕ → ℕ → ℕ
+dwordsLeft t g = cond (ltb g t) (t - g) 1
