@@ -26,14 +26,14 @@ use Rattle.reading.proofs.Scans.{grown}
 use Rattle.reading.proofs.Steps.{stands-fits, stands-same}
 use Rattle.progress.specs.declared.Progress.{Progress}
 use Rattle.progress.specs.Steps.{kindIn, totalIn, alone, Event, fault, unfinished, passes, judged, settled, gathered, come, beginning, between, afterEvent, fitted, writtenBy, Stage, stage, byEvent, stageAfter}
-use Rattle.progress.specs.Parts.{gatheredIn, dwordsLeft}
+use Rattle.progress.specs.Parts.{gatheredIn, dwordsLeft, Counts}
 use Rattle.progress.specs.Sound.{Sound}
 use Rattle.progress.proofs.Gathers.{gatheredAll, gathered-in, total-all}
 use Rattle.progress.proofs.Runs.{Run, ran, run, runFrom, run-step, run-stopped, held, run-held, run-whole, run-refused, gathers, run-short, run-command, settled-is}
 use Rattle.progress.proofs.Stages.{stage-stays, stage-event, stage-same}
 use Rattle.progress.proofs.Fold.{number-on}
-use Rattle.chunks.specs.Turns.{Ready, leftBy, Kept, Went, Counts, Begins}
-use Rattle.chunks.proofs.Leaves.{skip-small, pass-on}
+use Rattle.chunks.specs.Turns.{Ready, leftBy, Kept, Went, Begins}
+use Rattle.progress.proofs.Leaves.{skip-small, pass-on}
 
 -- how many dwords have been read up to dword i of the chunk, at most
 abbrev readTo : List ℕ → ℕ → ℕ

@@ -39,9 +39,3 @@ pub record Begins (c : Chip) (l : List ℕ) (i k d : ℕ) : Type 0 where
   pub first : d ≡ getD l i 0
   pub kind : k ≡ kindOf c d
   pub allowed : headerVerdict k d (totalOf k d) ≡ Passed
-
--- room in the counts for one command more, which stands at a place
-pub record Counts (st : State) (at : ℕ) : Type 0 where
-  pub limit : at ≤ 16384
-  pub commands : st .commands ≤ at
-  pub objects : st .objects ≤ at

@@ -1,15 +1,11 @@
 // A chunk of a batch, read on from where the reading has come to.
 ghost use mathlib.Core.Path.{_≡_};
-ghost use Prim.Native.Nat.{_+_, _-_, _^_, _<_, _≤_};
-ghost use lib.ListN.{length, getD, take, drop};
-ghost use Rattle.command.specs.Kinds.{kindOf, totalOf, ownDwords};
-ghost use Rattle.command.specs.Order.{commandOf};
-ghost use Rattle.judge.specs.Refusals.{judgeOf};
-ghost use Rattle.record.specs.Record.{recordOf};
+ghost use Prim.Native.Nat.{_<_};
+ghost use lib.ListN.{length, getD, drop};
+ghost use Rattle.command.specs.Kinds.{kindOf};
 ghost use Rattle.reading.specs.Turns.{Header};
-ghost use Rattle.progress.specs.Steps.{kindIn, totalIn, unfinished, passes as passing, fault, settled, between, afterEvent, fitted, stage, byEvent, stageAfter};
-ghost use Rattle.progress.specs.Parts.{gatheredIn, dwordsLeft};
-ghost use Rattle.chunks.specs.Turns.{Ready, Kept, Went, Counts, Begins};
+ghost use Rattle.progress.specs.Steps.{between, stage, stageAfter};
+ghost use Rattle.chunks.specs.Turns.{Ready, Kept, Went, Begins};
 use command::State;
 use command::head::kind;
 use command::head::own_count;
@@ -21,135 +17,14 @@ use judge::header_verdict;
 use judge::own_verdict;
 use judge::sound;
 use progress::Progress;
+use progress::gather;
+use progress::halt;
+use progress::hold;
+use progress::left_of;
+use progress::open;
+use progress::settle;
+use progress::write_record;
 use reading::repeated;
-use record::words;
-use records::put;
-
-// Writes the words of record i, where it fits.
-fn store(records: &mut [u32], i: usize, w: [u32; 16])
-    requires { ⌜ i < 2 ^ 32 ⌝ }
-    ensures { λ _. ⌜ now (records .exit) ≡ fitted (now (records .entry)) i w ⌝ }
-{
-    if records.len() / 16 <= i {
-        return;
-    }
-    let mut empty: [u8; 0] = [];
-    put(records, &mut empty, i, w);
-}
-
-// Writes the record of the command of kind k at a place, with own dwords h and t dwords in all, where it fits. A function of its own, so
-// that the loops stay small enough to get code for their kind.
-fn write_record(records: &mut [u32], k: u32, h: [u32; 8], at: u32, t: u32, st: State)
-    ensures { λ _. ⌜ now (records .exit) ≡ fitted (now (records .entry)) (st .commands) (recordOf (commandOf k at t h st)) ⌝ }
-{
-    store(records, st.commands as usize, words(k, h, at, t, st));
-}
-
-// How many dwords lead to the last of a command of t dwords, of which g have come.
-fn left_of(t: u32, g: u32) -> u32
-    ensures { λ r. ⌜ r ≡ dwordsLeft t g ⌝ }
-{
-    if g < t {
-        return t - g;
-    }
-    1
-}
-
-// The own dwords h of a command that has `most` of them, of which g have come, with the next n dwords of a chunk from a place on. Inline
-// data is passed over.
-fn gather(h: [u32; 8], most: usize, g: usize, chunk: &[u32], from: usize, n: usize) -> [u32; 8]
-    requires { ⌜ (from + n ≤ length (now chunk)) × (n ≤ 16384) × (g ≤ 16384) × (most ≤ 8) ⌝ }
-    ensures { λ r. ⌜ r ≡ gatheredIn most h g (take n (drop from (now (chunk .entry)))) ⌝ }
-{
-    let mut own = h;
-    let mut j: usize = 0;
-    while j < n {
-        if most <= g + j {
-            return own;
-        }
-        own[g + j] = chunk[from + j];
-        j += 1;
-    }
-    own
-}
-
-// Reading goes on in a command that stands at a place, with own dwords h, of which g dwords have come.
-fn hold(st: State, at: u32, h: [u32; 8], g: u32) -> Progress
-    ensures { λ r. ⌜ r ≡ afterEvent st at (unfinished h g) ⌝ }
-{
-    Progress {
-        st,
-        own: h,
-        place: at,
-        got: g,
-        stop: 0,
-    }
-}
-
-// Reading stopped at a refusal.
-fn halt(st: State, at: u32, number: u32, skip: u32) -> Progress
-    requires { ⌜ at + skip < 2 ^ 32 ⌝ }
-    ensures { λ r. ⌜ r ≡ afterEvent st at (fault number skip) ⌝ }
-{
-    Progress {
-        st,
-        own: [0, 0, 0, 0, 0, 0, 0, 0],
-        place: at + skip,
-        got: 0,
-        stop: number,
-    }
-}
-
-// Reading between two commands.
-fn open(st: State, at: u32) -> Progress
-    ensures { λ r. ⌜ r ≡ between st at ⌝ }
-{
-    Progress {
-        st,
-        own: [0, 0, 0, 0, 0, 0, 0, 0],
-        place: at,
-        got: 0,
-        stop: 0,
-    }
-}
-
-// A command that passes, of kind k, with own dwords h and t dwords in all: its record, where it fits, and what it sets.
-fn pass(st: State, at: u32, h: [u32; 8], k: u32, t: u32, records: &mut [u32]) -> Progress
-    requires { ⌜ Counts st at × (k ≡ kindIn st h) × (t ≡ totalIn st h) ⌝ }
-    ensures { λ r. ⌜ stage r (now (records .exit)) ≡ byEvent st at (passing h) (now (records .entry)) ⌝ }
-{
-    write_record(records, k, h, at, t, st);
-    let mut next = open(after(k, h, st), at + t);
-    if k == 2 {
-        next.stop = 255;
-    }
-    next
-}
-
-// Rows 3 to 9 of a whole command of kind k, with own dwords h and t dwords in all.
-fn judge(k: u32, t: u32, h: [u32; 8], st: State) -> Verdict
-    ensures { λ r. ⌜ r ≡ judgeOf k t h st ⌝ }
-{
-    match header_verdict(k, h[0], t as usize) {
-        Verdict::Fault { number, skip } => Verdict::Fault { number, skip },
-        Verdict::Passed => own_verdict(k, h, st),
-    }
-}
-
-// A command that has come whole, with own dwords h.
-fn settle(st: State, at: u32, h: [u32; 8], records: &mut [u32]) -> Progress
-    requires { ⌜ Counts st at ⌝ }
-    ensures { λ r. ⌜ stage r (now (records .exit)) ≡ byEvent st at (settled st h) (now (records .entry)) ⌝ }
-{
-    let chip = st.chip;
-    let d = h[0];
-    let k = kind(chip, d);
-    let t = total(k, d);
-    match judge(k, t, h, st) {
-        Verdict::Fault { number, skip } => halt(st, at, number, skip),
-        Verdict::Passed => pass(st, at, h, k, t, records),
-    }
-}
 
 // A turn: how far the reading has come, and the next dword of the chunk.
 pub struct Turned {

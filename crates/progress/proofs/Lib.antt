@@ -4,3 +4,4 @@ pub mod Stages
 pub mod Fitted
 pub mod Fold
 pub mod Stops
+pub mod Leaves

@@ -1,7 +1,7 @@
-use Rattle.chunks.proofs.Leaves.{stores}
+use Rattle.progress.proofs.Leaves.{stores}
 use borrow.Author.Needs.{needs}
-use Rattle.chunks.proofs.store.Statement.{statement}
-use Rattle.chunks.proofs.store.Tie as tie
+use Rattle.progress.proofs.store.Statement.{statement}
+use Rattle.progress.proofs.store.Tie as tie
 
 returns : tie.Need-returns
 returns c = search stores

@@ -1,7 +1,7 @@
-use Rattle.chunks.proofs.Leaves.{judges}
+use Rattle.progress.proofs.Leaves.{judges}
 use borrow.Author.Needs.{needs}
-use Rattle.chunks.proofs.judge.Statement.{statement}
-use Rattle.chunks.proofs.judge.Tie as tie
+use Rattle.progress.proofs.judge.Statement.{statement}
+use Rattle.progress.proofs.judge.Tie as tie
 
 array-read-header-verdict : tie.Need-array-read-header-verdict
 array-read-header-verdict c = search needs

@@ -1,8 +1,8 @@
 use mathlib.Core.Path.{refl}
 use Rattle.progress.specs.Steps.{afterEvent}
 use borrow.Author.Needs.{needs}
-use Rattle.chunks.proofs.halt.Statement.{statement}
-use Rattle.chunks.proofs.halt.Tie as tie
+use Rattle.progress.proofs.halt.Statement.{statement}
+use Rattle.progress.proofs.halt.Tie as tie
 
 add-t6 : tie.Need-add-t6
 add-t6 c = search needs

@@ -1,7 +1,7 @@
 use Rattle.laws.proofs.Tests.{tests}
 use borrow.Author.Needs.{needs}
-use Rattle.chunks.proofs.left_of.Statement.{statement}
-use Rattle.chunks.proofs.left_of.Tie as tie
+use Rattle.progress.proofs.left_of.Statement.{statement}
+use Rattle.progress.proofs.left_of.Tie as tie
 
 sub-result : tie.Need-sub-result
 sub-result c = search needs

@@ -1,7 +1,7 @@
-use Rattle.chunks.proofs.Leaves.{record-as}
+use Rattle.progress.proofs.Leaves.{record-as}
 use borrow.Author.Needs.{needs}
-use Rattle.chunks.proofs.write_record.Statement.{statement}
-use Rattle.chunks.proofs.write_record.Tie as tie
+use Rattle.progress.proofs.write_record.Statement.{statement}
+use Rattle.progress.proofs.write_record.Tie as tie
 
 cast-store : tie.Need-cast-store
 cast-store c = search needs

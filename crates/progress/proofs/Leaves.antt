@@ -23,10 +23,9 @@ use Rattle.judge.proofs.Judged.{judge-own, judge-header, isEarly, fault-early}
 use Rattle.record.specs.Record.{recordOf}
 use Rattle.records.specs.Records.{putWords}
 use Rattle.records.proofs.Buffers.{words-view}
 use Rattle.progress.specs.declared.Progress.{Progress}
 use Rattle.progress.specs.Steps.{kindIn, totalIn, Event, fault, passes, judged, settled, between, afterEvent, fitted, Stage, stage, byEvent, writtenBy}
-use Rattle.progress.specs.Parts.{gatheredIn}
-use Rattle.chunks.specs.Turns.{Counts}
+use Rattle.progress.specs.Parts.{gatheredIn, Counts}
 
 -- records
 pub store-none : (r : List ℕ) (i : ℕ) (w : List ℕ) → length r / 16 ≤ i → r ≡ fitted r i w

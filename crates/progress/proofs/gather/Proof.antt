@@ -1,11 +1,11 @@
 use Prim.Native.Nat.{_+_, _-_, _≤_}
 use mathlib.Core.Path.{_≡_}
 use lib.ListN.{take, drop}
 use Rattle.progress.specs.Parts.{gatheredIn}
-use Rattle.chunks.proofs.Leaves.{gathers}
+use Rattle.progress.proofs.Leaves.{gathers}
 use borrow.Author.Needs.{needs}
-use Rattle.chunks.proofs.gather.Statement.{statement}
-use Rattle.chunks.proofs.gather.Tie as tie
+use Rattle.progress.proofs.gather.Statement.{statement}
+use Rattle.progress.proofs.gather.Tie as tie
 
 abbrev Inv-loop : tie.InvT-loop
 Inv-loop most g chunk from n own₀ j₀ own j =

@@ -1,7 +1,7 @@
-use Rattle.chunks.proofs.Leaves.{skip-small, settles}
+use Rattle.progress.proofs.Leaves.{skip-small, settles}
 use borrow.Author.Needs.{needs}
-use Rattle.chunks.proofs.settle.Statement.{statement}
-use Rattle.chunks.proofs.settle.Tie as tie
+use Rattle.progress.proofs.settle.Statement.{statement}
+use Rattle.progress.proofs.settle.Tie as tie
 
 array-read-d : tie.Need-array-read-d
 array-read-d c = search needs

@@ -1,8 +1,8 @@
 use mathlib.Core.Path.{refl}
 use Rattle.progress.specs.Steps.{afterEvent}
 use borrow.Author.Needs.{needs}
-use Rattle.chunks.proofs.hold.Statement.{statement}
-use Rattle.chunks.proofs.hold.Tie as tie
+use Rattle.progress.proofs.hold.Statement.{statement}
+use Rattle.progress.proofs.hold.Tie as tie
 
 returns : tie.Need-returns
 unfolding afterEvent

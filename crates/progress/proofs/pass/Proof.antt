@@ -1,7 +1,7 @@
-use Rattle.chunks.proofs.Leaves.{place-fits, passed-laws}
+use Rattle.progress.proofs.Leaves.{place-fits, passed-laws}
 use borrow.Author.Needs.{needs}
-use Rattle.chunks.proofs.pass.Statement.{statement}
-use Rattle.chunks.proofs.pass.Tie as tie
+use Rattle.progress.proofs.pass.Statement.{statement}
+use Rattle.progress.proofs.pass.Tie as tie
 
 write-record-requires : tie.Need-write-record-requires
 write-record-requires c κs = search needs
