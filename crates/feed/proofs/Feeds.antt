@@ -25,7 +25,7 @@ use Rattle.command.specs.declared.State.{State}
 use Rattle.feed.specs.declared.Order.{Order}
 use Rattle.feed.specs.declared.Carried.{Carried}
 use Rattle.feed.specs.declared.Fed.{Fed}
-use Rattle.feed.specs.Feeding.{stateBy, orderBy, resumed, carriedBy, Taken, taken, takeChunk, Left, left, leftBy, chunkTaken, refusedBy, afterChunk, answerAt, isStop, readOf, goesOn, usable, gives, answered, fedOf, Outcome, outcome, feedOf}
+use Rattle.feed.specs.Feeding.{stateBy, orderBy, resumed, carriedBy, Taken, taken, takeChunk, Left, left, leftBy, chunkTaken, refusedBy, afterChunk, answerAt, isStop, readOf, goesOn, usable, gives, answered, fedOf, lateFed, Outcome, outcome, feedOf}
 use Rattle.feed.specs.Counting.{readCount, dwordsAfter}
 use Rattle.feed.proofs.Counting.{read-few, read-take, take-chunk}
 
@@ -283,6 +283,9 @@ say-more last room c a e ea = ap (λ (x : Answer). record { carried = c; more = 
 
 pub ruleset says = (say-last, say-more)
 
+pub late-is : (c : Carried) (a : Answer) → a ≡ refusedAnswer 19 0 → record { carried = c; more = 0; answer = a } ≡ lateFed c
+late-is c a e = ap (gives c) e
+
 -- a call
 module _ (chip capacity : ℕ) (c : Carried) (l : List ℕ) (last : Bool) (r : List ℕ) (u : Bool) (eu : u ≡ usable c) where
   pub goes-usable : u ≡ true → usable c ≡ true
@@ -296,6 +299,6 @@ module _ (chip capacity : ℕ) (c : Carried) (l : List ℕ) (last : Bool) (r : L
       (ap (λ (x : Fed). outcome x r′) (ef ∙ ap (λ (n : ℕ). fedOf last n c′) z)
       ∙ ap (λ (x : Left). outcome (fedOf last (length r) (x .carried)) (x .records)) es)
 
-  pub feed-late : (a : Answer) → u ≡ false → a ≡ refusedAnswer 19 0 → outcome (record { carried = c; more = 0; answer = a }) r ≡ feedOf chip capacity c l last r
+  pub feed-late : (f : Fed) → u ≡ false → f ≡ lateFed c → outcome f r ≡ feedOf chip capacity c l last r
   unfolding feedOf
-  feed-late a e ea = simp (sym eu ∙ e) (ap (λ (x : Answer). outcome (gives c x) r) ea)
+  feed-late f e ef = simp (sym eu ∙ e) (ap (λ (x : Fed). outcome x r) ef)

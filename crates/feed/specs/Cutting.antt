@@ -81,7 +81,8 @@ recordsKept chip capacity b r = onChip (λ number place. r) (λ c. writtenFit (k
 -- a record buffer word by word
 pub record Words (cs : List Command) (r filled : List ℕ) : Type 0 where
   -- word f of the record of command i, where it fits
-  pub recordAt : (i f : ℕ) → i < length cs → i < length r / 16 → f < 16 → getD filled (slot i f) 0 ≡ getD (recordOf (commandNumber cs i)) f 0
+  pub recordAt : (i f : ℕ) → i < length cs → i < length r / 16 → f < 16
+      → getD filled (slot i f) 0 ≡ getD (recordOf (commandNumber cs i)) f 0
   -- "the rest untouched": a word of no such record, or of one that does not fit
   pub untouched : (p : ℕ) → (p / 16 < length cs → p / 16 < length r / 16 → ⊥) → getD filled p 0 ≡ getD r p 0
   pub size : length filled ≡ length r
@@ -93,7 +94,8 @@ pub record Cut (chip capacity : ℕ) (chunks : List (List ℕ)) (last r : List �
   pub answer : lastMade chip capacity chunks last r .fed .answer ≡ answerOf chip capacity (joined chunks last) r
   -- "after a refusal they are those of the commands passed that end within the first 16,384 dwords, the rest untouched"
   pub records : lastMade chip capacity chunks last r .records ≡ recordsKept chip capacity (joined chunks last) r
-  pub words : ForChip chip (λ c. Words (keptIn (targetOf c capacity) (joined chunks last)) r (lastMade chip capacity chunks last r .records))
+  pub words : ForChip chip
+      (λ c. Words (keptIn (targetOf c capacity) (joined chunks last)) r (lastMade chip capacity chunks last r .records))
   pub unnamed : Unnamed chip → lastMade chip capacity chunks last r .records ≡ r
   -- "after acceptance they equal the whole batch's"
   pub accepted : answerOf chip capacity (joined chunks last) r .number ≡ 0
@@ -126,7 +128,8 @@ Numbered f = (f .answer .number ≤ 10) ⊎ ((f .answer .number ≡ 18) ⊎ (f .
 pub record SameCut (chip capacity : ℕ) (chunks chunks′ : List (List ℕ)) (last last′ r : List ℕ) (late late′ : List Call) : Type 0 where
   pub says : lastMade chip capacity chunks last r .fed .more ≡ lastMade chip capacity chunks′ last′ r .fed .more
   pub answer : lastMade chip capacity chunks last r .fed .answer ≡ lastMade chip capacity chunks′ last′ r .fed .answer
-  pub records : leavesAll (afterLast chip capacity chunks last r) late .records ≡ leavesAll (afterLast chip capacity chunks′ last′ r) late′ .records
+  pub records : leavesAll (afterLast chip capacity chunks last r) late .records
+      ≡ leavesAll (afterLast chip capacity chunks′ last′ r) late′ .records
 
 -- A list of dwords cut into chunks of given lengths, and what is left, the last chunk.
 abbrev pub cutAt : List ℕ → List ℕ → List (List ℕ)

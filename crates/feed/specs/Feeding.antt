@@ -147,7 +147,8 @@ readOf dwords = cond (ltb 16384 dwords) 16384 dwords
 abbrev pub goesOn : Carried → Bool
 goesOn c = leb (c .place + c .got) (readOf (c .dwords)) && leb (c .order .commands) (c .place) && leb (c .order .objects) (c .place)
 
--- No answer was given, and the carried state can be one that a call returned, as far as this tells; any other is answered as after an answer.
+-- No answer was given, and the carried state can be one that a call returned, as far as this tells; any other is answered as after an
+-- answer.
 unfoldable pub usable : Carried → Bool
 usable c = eqb (c .answered) 0 && leb (c .dwords) 16385 && cond (eqb (c .stop) 0) (goesOn c) (isStop (c .stop))
 
@@ -168,6 +169,10 @@ abbrev pub fedOf : Bool → ℕ → Carried → Fed
 fedOf true room c = gives (answered c) (answerAt room c)
 fedOf false room c = saysMore c
 
+-- "19, a chunk offered after an answer was given", with "place 0": the carried state is handed back as it is
+abbrev pub lateFed : Carried → Fed
+lateFed c = gives c (refusedAnswer 19 0)
+
 -- what a call gives back, and the record buffer at exit
 pub record Outcome : Type 0 where
   pub fed : Fed
@@ -176,9 +181,9 @@ pub record Outcome : Type 0 where
 abbrev pub outcome : Fed → List ℕ → Outcome
 outcome f r = record { fed = f; records = r }
 
--- "19, a chunk offered after an answer was given, checked before 18"; "A new refusal .. changes nothing lent and has place 0".
+-- A call. 19 is "checked before 18"; "A new refusal .. changes nothing lent".
 unfoldable pub feedOf : ℕ → ℕ → Carried → List ℕ → Bool → List ℕ → Outcome
 feedOf chip capacity c chunk last r =
     let l = afterChunk chip capacity c chunk r in
     cond (usable c) (outcome (fedOf last (length r) (l .carried)) (l .records))
-    (outcome (gives c (refusedAnswer 19 0)) r)
+    (outcome (lateFed c) r)

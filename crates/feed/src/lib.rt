@@ -3,8 +3,8 @@ ghost use mathlib.Core.Path.{_≡_};
 ghost use Prim.Native.Nat.{_≤_};
 ghost use mathlib.Core.Bool.{true};
 ghost use lib.ListN.{length};
-ghost use Rattle.feed.specs.Feeding.{stateBy, orderBy, resumed, carriedBy, isStop, readOf, goesOn, usable, refusedBy, answerAt, answered};
-ghost use Rattle.feed.specs.Feeding.{left, chunkTaken, afterChunk, fedOf, outcome, feedOf};
+ghost use Rattle.feed.specs.Feeding.{stateBy, orderBy, resumed, carriedBy, isStop, readOf, goesOn, usable, refusedBy};
+ghost use Rattle.feed.specs.Feeding.{left, chunkTaken, afterChunk, answerAt, answered, fedOf, lateFed, outcome, feedOf};
 ghost use Rattle.feed.specs.Counting.{readCount, dwordsAfter};
 use batch::Answer;
 use batch::accepted;
@@ -299,6 +299,17 @@ fn say(c: Carried, last: bool, room: usize) -> Fed
     }
 }
 
+// 19: a chunk offered after an answer was given.
+fn late(c: Carried) -> Fed
+    ensures { λ r. ⌜ r ≡ lateFed c ⌝ }
+{
+    Fed {
+        carried: c,
+        more: 0,
+        answer: refused(19, 0),
+    }
+}
+
 // The batch check, fed a chunk: the last call answers, as the batch check does on all the chunks joined. Records are written as commands
 // pass.
 pub fn feed(
@@ -315,9 +326,5 @@ pub fn feed(
         let next = after_chunk(chip, capacity, carried, chunk, records);
         return say(next, last, records.len());
     }
-    Fed {
-        carried,
-        more: 0,
-        answer: refused(19, 0),
-    }
+    late(carried)
 }

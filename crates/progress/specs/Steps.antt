@@ -117,8 +117,8 @@ unfoldable pub stageAfter : Stage → List ℕ → Stage
 stageAfter s [] = s
 stageAfter s (d ∷ ds) = stageAfter (stepOn s d) ds
 
--- How reading stopped, if no more dwords come: by `stop`, how many dwords have come of a command that is not whole, and the place. 2: "slice
--- used up before END (place: its length)"; 5: "command runs past the slice".
+-- How reading stopped, if no more dwords come: by `stop`, how many dwords have come of a command that is not whole, and the place. 2:
+-- "slice used up before END (place: its length)"; 5: "command runs past the slice".
 unfoldable pub stopBy : ℕ → ℕ → ℕ → Stop
 stopBy stop got place =
     cond (eqb stop 0) (cond (eqb got 0) (stopped 2 place) (stopped 5 place))

@@ -18,8 +18,8 @@ same-length c = search needs
 returns : tie.Need-returns
 returns c = search feed-taken
 
-refused-requires : tie.Need-refused-requires
-refused-requires c κs = search needs
+late-requires : tie.Need-late-requires
+late-requires c κs = search needs
 
 returns-2 : tie.Need-returns-2
 returns-2 c = search feed-late
@@ -33,5 +33,5 @@ feed-spec =
     say-requires
     same-length
     returns
-    refused-requires
+    late-requires
     returns-2)
