@@ -15,7 +15,7 @@ use command::states::after;
 use judge::Verdict;
 use judge::header_verdict;
 use judge::own_verdict;
-use judge::sound;
+use judge::sound_object;
 use progress::Progress;
 use progress::gather;
 use progress::halt;
@@ -132,7 +132,7 @@ fn objects(
     let mut i = from;
     while repeated(chunk, &none, chunk.len(), i, t as usize, d) {
         let h = own_dwords(chunk, &none, i, 7, d);
-        if !sound(7, h, st) {
+        if !sound_object(h, st) {
             return Reached { st, at, next: i };
         }
         write_record(records, 7, h, at, t, st);

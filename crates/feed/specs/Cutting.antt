@@ -149,7 +149,7 @@ pub record Guards : Type 0 where
   pub cut : (b lengths : List ℕ) → joined (cutAt lengths b) (lastOf lengths b) ≡ b
   pub chunks : (chunks : List (List ℕ)) (last : List ℕ) → cutAt (lengthsOf chunks) (joined chunks last) ≡ chunks
   pub last : (chunks : List (List ℕ)) (last : List ℕ) → lastOf (lengthsOf chunks) (joined chunks last) ≡ last
-  -- "complete so far" is said of what has come: no dword that comes later changes it
+  -- which commands are complete is said of what has come: no dword that comes later changes it
   pub complete : (target : Target) (b more : List ℕ) → Complete target b more
 
 pub record Chunked : Type 0 where

@@ -1,5 +1,7 @@
--- What a call of the chunked check gives back, and what it leaves in the lent record buffer: document 02, Three. A call goes by what it is
--- given: the chip's number, the capacity in rows, the carried state, the chunk, whether it is the last, and the record buffer.
+-- What a call of the chunked check gives back, and what it leaves in the lent record buffer: document 02, Three, "We want a check fed chunk
+-- by chunk, in a reader that keeps its place in the caller's slice for the length of a call, with a small carried state between calls." A
+-- call goes by what it is given: the chip's number, the capacity in rows, the carried state, the chunk, whether it is the last, and the
+-- record buffer.
 use Prim.Native.Nat.{ℕ, _+_}
 use mathlib.Core.Bool.{Bool, true, false, cond, _&&_, _||_}
 use mathlib.Core.List.{List, [], _∷_}
@@ -152,10 +154,11 @@ goesOn c = leb (c .place + c .got) (readOf (c .dwords)) && leb (c .order .comman
 unfoldable pub usable : Carried → Bool
 usable c = eqb (c .answered) 0 && leb (c .dwords) 16385 && cond (eqb (c .stop) 0) (goesOn c) (isStop (c .stop))
 
--- what a call says, "more" or the answer: what "more" leaves free is 0
+-- what a call says: that more is wanted, where the numbers of an answer are 0 ..
 abbrev pub saysMore : Carried → Fed
 saysMore c = record { carried = c; more = 1; answer = acceptedAnswer 0 0 }
 
+-- .. or the answer
 abbrev pub gives : Carried → Answer → Fed
 gives c answer = record { carried = c; more = 0; answer = answer }
 

@@ -232,7 +232,7 @@ pub fn own_verdict(k: u32, h: [u32; 8], st: State) -> Verdict
 
 // Does an OBJECT with own dwords h pass rows 6 to 9? One test for the must-be-zero bits of dwords 2 to 5, and one for dword 1: an index
 // below a count of at most 64 leaves no room for bits 7:6. Where the answer is no, `own_verdict` decides.
-fn sound_object(h: [u32; 8], st: State) -> bool
+pub fn sound_object(h: [u32; 8], st: State) -> bool
     ensures { λ r. ⌜ Vouches 7 h st r ⌝ }
 {
     let chip = st.chip;

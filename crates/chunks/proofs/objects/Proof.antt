@@ -39,8 +39,8 @@ slice-aggregate-own-dwords c = search needs
 own-dwords-requires : tie.Need-own-dwords-requires Inv-loop μ-loop
 own-dwords-requires c κs = (again-own _ _ _ _ _ _ _ _ _ _ _ _ (c .before .before .before .before .loop .inv .0) (c .before .before .before .before .before .before .before .before .pre .1) (c .before .before .before .before .loop .inv .1) (c .before .before .before .before .before .total .ensures) _ (c .before .before .repeated .ensures) (c .before .if1 .taken), let q = c .before .before .before .before .loop .inv .0 .ready in let a = q .inside in let b = q .few in search needs, again-first _ _ _ _ _ _ _ _ _ _ _ _ (c .before .before .before .before .loop .inv .0) (c .before .before .before .before .before .before .before .before .pre .1) (c .before .before .before .before .loop .inv .1) (c .before .before .before .before .before .total .ensures) _ (c .before .before .repeated .ensures) (c .before .if1 .taken))
 
-sound-requires : tie.Need-sound-requires Inv-loop μ-loop
-sound-requires c κs = search needs
+sound-object-requires : tie.Need-sound-object-requires Inv-loop μ-loop
+sound-object-requires c κs = search needs
 
 same-length : tie.Need-same-length Inv-loop μ-loop
 same-length c = c .before .before .before .before .before .before .before .loop .inv .2
@@ -67,7 +67,7 @@ loop-less : tie.Need-loop-less Inv-loop μ-loop
 loop-less c = again-less _ _ _ _ _ _ _ _ _ _ _ _ (c .before .before .before .before .before .before .before .before .before .before .before .before .loop .inv .0) (c .before .before .before .before .before .before .before .before .before .before .before .before .before .before .before .before .pre .1) (c .before .before .before .before .before .before .before .before .before .before .before .before .loop .inv .1) (c .before .before .before .before .before .before .before .before .before .before .before .before .before .total .ensures) _ (c .before .before .before .before .before .before .before .before .before .before .repeated .ensures) (c .before .before .before .before .before .before .before .before .before .if1 .taken)
 
 loop-again : tie.Need-loop-again Inv-loop μ-loop
-loop-again c = (again-kept _ _ _ _ _ _ _ _ _ _ _ _ (c .before .before .before .before .before .before .before .before .before .before .before .before .loop .inv .0) (c .before .before .before .before .before .before .before .before .before .before .before .before .before .before .before .before .pre .1) (c .before .before .before .before .before .before .before .before .before .before .before .before .loop .inv .1) (c .before .before .before .before .before .before .before .before .before .before .before .before .before .total .ensures) _ (c .before .before .before .before .before .before .before .before .before .before .repeated .ensures) (c .before .before .before .before .before .before .before .before .before .if1 .taken) _ (c .before .before .before .before .before .before .before .«own-dwords» .ensures) _ (c .after .ensures) _ _ (c .before .before .before .before .before .before .sound .ensures) (not-false _ (c .before .before .before .before .before .if2 .left)) (c .before .before .before .«write-record» .ensures), again-chip _ _ _ _ _ _ _ _ _ _ _ _ (c .before .before .before .before .before .before .before .before .before .before .before .before .loop .inv .0) (c .before .before .before .before .before .before .before .before .before .before .before .before .before .before .before .before .pre .1) (c .before .before .before .before .before .before .before .before .before .before .before .before .loop .inv .1) (c .before .before .before .before .before .before .before .before .before .before .before .before .before .total .ensures) _ (c .before .before .before .before .before .before .before .before .before .before .repeated .ensures) (c .before .before .before .before .before .before .before .before .before .if1 .taken) _ (c .before .before .before .before .before .before .before .«own-dwords» .ensures) _ (c .after .ensures), let q = c .before .before .before .before .before .before .before .before .before .before .before .before .loop .inv .2 in search needs)
+loop-again c = (again-kept _ _ _ _ _ _ _ _ _ _ _ _ (c .before .before .before .before .before .before .before .before .before .before .before .before .loop .inv .0) (c .before .before .before .before .before .before .before .before .before .before .before .before .before .before .before .before .pre .1) (c .before .before .before .before .before .before .before .before .before .before .before .before .loop .inv .1) (c .before .before .before .before .before .before .before .before .before .before .before .before .before .total .ensures) _ (c .before .before .before .before .before .before .before .before .before .before .repeated .ensures) (c .before .before .before .before .before .before .before .before .before .if1 .taken) _ (c .before .before .before .before .before .before .before .«own-dwords» .ensures) _ (c .after .ensures) _ _ (c .before .before .before .before .before .before .sound-object .ensures) (not-false _ (c .before .before .before .before .before .if2 .left)) (c .before .before .before .«write-record» .ensures), again-chip _ _ _ _ _ _ _ _ _ _ _ _ (c .before .before .before .before .before .before .before .before .before .before .before .before .loop .inv .0) (c .before .before .before .before .before .before .before .before .before .before .before .before .before .before .before .before .pre .1) (c .before .before .before .before .before .before .before .before .before .before .before .before .loop .inv .1) (c .before .before .before .before .before .before .before .before .before .before .before .before .before .total .ensures) _ (c .before .before .before .before .before .before .before .before .before .before .repeated .ensures) (c .before .before .before .before .before .before .before .before .before .if1 .taken) _ (c .before .before .before .before .before .before .before .«own-dwords» .ensures) _ (c .after .ensures), let q = c .before .before .before .before .before .before .before .before .before .before .before .before .loop .inv .2 in search needs)
 
 same-length-2 : tie.Need-same-length-2 Inv-loop μ-loop
 same-length-2 c = c .before .before .before .loop .inv .2
@@ -88,7 +88,7 @@ objects-spec =
     repeated-requires
     slice-aggregate-own-dwords
     own-dwords-requires
-    sound-requires
+    sound-object-requires
     same-length
     returns
     write-record-requires
