@@ -8,7 +8,7 @@ use mathlib.Core.List.{List, [], _∷_, _++_, append-assoc, append-nil}
 use lib.ListN.{length, getD, take, drop, take-append-drop}
 use lib.Seq.{take-append-seam, drop-append-seam}
 use lib.Dec.{T, ltb, leb, eqb}
-use borrow.Author.Tests.{leb-true, eq-eqb, ne-eqb, eqb-true, eqb-false}
+use borrow.Author.Tests.{le-leb, leb-true, ltb-false, eq-eqb, ne-eqb, eqb-true, eqb-false}
 use Rattle.laws.proofs.Choices.{by-test, and-left, and-right}
 use Rattle.chips.specs.declared.Chip.{Chip}
 use Rattle.chips.specs.declared.Target.{Target}
@@ -26,15 +26,16 @@ use Rattle.batch.proofs.Isolation.{alike-answer}
 use Rattle.progress.specs.declared.Progress.{Progress}
 use Rattle.progress.specs.Steps.{Stage, stage, stageAfter, stopBy, atEnd}
 use Rattle.progress.specs.Fitting.{writtenFit}
-use Rattle.progress.proofs.Stages.{stage-run}
+use Rattle.progress.proofs.Stages.{stage-stays, stage-run}
 use Rattle.progress.proofs.Fitted.{written-length, written-other, written-at}
 use Rattle.progress.proofs.Stops.{stopRead, stop-kept, stop-same}
 use Rattle.feed.specs.declared.Carried.{Carried}
 use Rattle.feed.specs.declared.Fed.{Fed}
-use Rattle.feed.specs.Feeding.{fresh, resumed, Taken, Left, left, chunkTaken, refusedBy, afterChunk, answerAt, isStop, usable, saysMore, gives, answered, fedOf, Outcome, outcome, feedOf}
-use Rattle.feed.specs.Cutting.{Call, call, made, leaves, leavesAll, calls, beforeLast, lastMade, afterLast, joined, endWithin, keptIn, recordsKept, Words, Cut, Earlier, Late, Numbered, SameCut, cutAt, lastOf, lengthsOf, Guards, Chunked}
+use Rattle.feed.specs.Feeding.{fresh, resumed, carriedBy, Taken, Left, left, leftBy, chunkTaken, refusedBy, afterChunk, answerAt, isStop, usable, saysMore, gives, answered, fedOf, Outcome, outcome, feedOf}
+use Rattle.feed.specs.Counting.{dwordsAfter}
+use Rattle.feed.specs.Cutting.{Call, call, made, leaves, leavesAll, calls, beforeLast, lastMade, afterLast, joined, endWithin, keptIn, recordsKept, Words, Cut, Earlier, Late, Said, NotLast, Unread, Numbered, SameCut, cutAt, lastOf, lengthsOf, chunksOf, Throughout, Guards, Chunked}
 use Rattle.feed.proofs.Counting.{take-chunk}
-use Rattle.feed.proofs.Feeds.{usable-answered, usable-few, usable-rest-on}
+use Rattle.feed.proofs.Feeds.{usable-answered, usable-open, usable-few, usable-rest-on}
 use Rattle.feed.proofs.Within.{complete}
 use Rattle.feed.proofs.Cuts.{After, after-none, after-usable, after-chunk, room-is, answer-is, kept-are, accepted-are}
 
@@ -170,7 +171,8 @@ module _ (chip capacity : ℕ) (ch : Chip) (named : chip ≡ numberOf ch) (r : L
   earlier-named : Earlier chip capacity chunks last r
   earlier-named =
       record {
-        says = ap (λ (o : Outcome). o .fed) (call-is false) ∙ ap saysMore (sym (ap (λ (o : Outcome). o .fed .carried) (call-is false)));
+        says = ap (λ (o : Outcome). o .fed .more) (call-is false);
+        free = ap (λ (o : Outcome). o .fed .answer) (call-is false);
         records = records-are false ∙ sym kept-of;
       }
 
@@ -245,7 +247,8 @@ module _ (chip capacity : ℕ) (none : Unnamed chip) (r : List ℕ) where
     earlier-none : Earlier chip capacity chunks last r
     earlier-none =
         record {
-          says = ap (λ (o : Outcome). o .fed) (none-made w₀ idle last false) ∙ ap saysMore (sym (ap (λ (o : Outcome). o .fed .carried) (none-made w₀ idle last false)));
+          says = ap (λ (o : Outcome). o .fed .more) (none-made w₀ idle last false);
+          free = ap (λ (o : Outcome). o .fed .answer) (none-made w₀ idle last false);
           records = none-records false ∙ sym none-kept;
         }
 
@@ -278,14 +281,8 @@ unfolding leavesAll
 refused-all [] w u = refl
 refused-all (c ∷ cs) w u = ap (λ (x : Left). leavesAll x cs) (refused-leaves w u c) ∙ refused-all cs w u
 
-late-from : (w : Left) → usable (w .carried) ≡ false → (late : List Call) (next : Call) → Late w late next
-late-from w u late next =
-    let e = refused-all late w u in
-    record {
-      unchanged = e;
-      nineteen = ap (λ (x : Left). made x next .fed) e ∙ ap (λ (o : Outcome). o .fed) (refused-made w u next);
-      kept = ap (λ (x : Left). made x next .records) e ∙ ap (λ (o : Outcome). o .records) (refused-made w u next);
-    }
+late-from : (c : Carried) → usable c ≡ false → Late c
+late-from c u chip capacity chunk last r = fed-late chip capacity c chunk last r u
 
 closed : (c : Carried) → usable (answered c) ≡ false
 closed c = sym (usable-answered (answered c) (λ e. omega arith))
@@ -307,9 +304,6 @@ answer-closes w c q =
     by-last true e = closed k
     by-last false e = absurd (omega arith)
 
-pub late : (w : Left) (c : Call) → made w c .fed .more ≡ 0 → (late : List Call) (next : Call) → Late (leaves w c) late next
-late w c q calls next = late-from (leaves w c) (answer-closes w c q) calls next
-
 -- THE NUMBERS
 abbrev okStop : ℕ → Bool
 okStop n = stopRead n || eqb n 18
@@ -327,7 +321,7 @@ module _ (n : ℕ) (ok : okStop n ≡ true) (not18 : n ≡ 18 → ⊥) (not0 : n
       go false b false false true p q x y z t = let w : _≡_ {A = ℕ} 0 1 = cc in absurd (omega arith)
 
 abbrev NumberOf : Answer → Type 0
-NumberOf a = (a .number ≤ 10) ⊎ ((a .number ≡ 18) ⊎ (a .number ≡ 19))
+NumberOf a = (a .number ≤ 10) ⊎ (a .number ≡ 18)
 
 at-stop-number : (room n : ℕ) (s : Stop) → ((m p : ℕ) → s ≡ stopped m p → m ≤ 10) → NumberOf (atStop refusedAnswer acceptedAnswer room n s)
 at-stop-number room n (stopped m p) h = inl (h m p refl)
@@ -354,7 +348,7 @@ stop-number stop got place ok n m p e =
 answer-number : (room : ℕ) (c : Carried) → okStop (c .stop) ≡ true → NumberOf (answerAt room c)
 unfolding answerAt
 answer-number room c ok =
-    by-test (eqb (c .stop) 18) (λ t. simp t (inr (inl refl)))
+    by-test (eqb (c .stop) 18) (λ t. simp t (inr refl))
     (λ t. by-test (ltb 16384 (c .dwords)) (λ f. simp (t, f) (inl (omega arith)))
     (λ f. simp (t, f) (at-stop-number room (c .order .commands) (stopBy (c .stop) (c .got) (c .place))
     (stop-number (c .stop) (c .got) (c .place) ok (eqb-false (c .stop) 18 t)))))
@@ -388,17 +382,145 @@ after-stop chip capacity c chunk last r u =
     (λ n. ap (λ (x : Left). okStop (x .carried .stop)) (after-none-named chip capacity c chunk last r n))
     (λ ch e. ap (λ (x : Left). okStop (x .carried .stop)) (after-named chip capacity c chunk last r ch e) ∙ taken-stop (targetOf ch capacity) c chunk r u)
 
-pub numbered : (w : Left) (c : Call) → Numbered (made w c .fed)
-numbered w c =
+-- a call on a carried state that can be gone on from has none of 19
+fed-number : (k : Carried) (room : ℕ) (t : Bool) → okStop (k .stop) ≡ true → NumberOf (fedOf t room k .answer)
+fed-number k room true ok = answer-number room k ok
+fed-number k room false ok = inl (omega arith)
+
+module _ (w : Left) (c : Call) where
+  abbrev k : Carried
+  k = afterChunk (c .chip) (c .capacity) (w .carried) (c .chunk) (w .records) .carried
+
+  taken : usable (w .carried) ≡ true → made w c ≡ outcome (fedOf (c .last) (length (w .records)) k) (afterChunk (c .chip) (c .capacity) (w .carried) (c .chunk) (w .records) .records)
+  taken u = fed-usable (c .chip) (c .capacity) (w .carried) (c .chunk) (c .last) (w .records) u
+
+  taken-number : usable (w .carried) ≡ true → NumberOf (made w c .fed .answer)
+  taken-number u =
+      subst (λ (o : Outcome). NumberOf (o .fed .answer)) (sym (taken u))
+      (fed-number k (length (w .records)) (c .last) (after-stop (c .chip) (c .capacity) (w .carried) (c .chunk) (c .last) (w .records) u))
+
+  pub numbered : Numbered (made w c .fed)
+  numbered =
+      by-test (usable (w .carried)) (λ u. widen (taken-number u))
+      (λ u. subst (λ (o : Outcome). Numbered (o .fed)) (sym (refused-made w u c)) (inr (inr refl)))
+    where
+      widen : NumberOf (made w c .fed .answer) → Numbered (made w c .fed)
+      widen (inl x) = inl x
+      widen (inr x) = inr (inl x)
+
+  not-nineteen : NumberOf (made w c .fed .answer) → made w c .fed .answer .number ≡ 19 → ⊥
+  not-nineteen (inl x) e = omega arith
+  not-nineteen (inr x) e = omega arith
+
+  last-more : (t : Bool) → t ≡ true → fedOf t (length (w .records)) k .more ≡ 0
+  last-more true e = refl
+  last-more false e = let z : _≡_ {A = ℕ} 0 1 = cc in absurd (omega arith)
+
+  pub said : Said w c
+  said =
+      record {
+        last = λ e.
+            by-test (usable (w .carried)) (λ u. ap (λ (o : Outcome). o .fed .more) (taken u) ∙ last-more (c .last) e)
+            (λ u. ap (λ (o : Outcome). o .fed .more) (refused-made w u c));
+        refused = λ e. by-test (usable (w .carried)) (λ u. absurd (not-nineteen (taken-number u) e)) (λ u. refused-made w u c);
+        late = λ e. late-from (made w c .fed .carried) (answer-closes w c e);
+      }
+
+-- AFTER A CALL THAT NAMED NO CHIP
+pub record Marked (w : Left) : Type 0 where
+  pub goes : usable (w .carried) ≡ true
+  pub eighteenth : w .carried .stop ≡ 18
+
+marked-usable : (n : ℕ) (c : Carried) → c .answered ≡ 0 → c .dwords ≤ 16385 → c .stop ≡ 18 → usable c ≡ true
+unfolding usable
+marked-usable n c a d e = simp (eq-eqb (c .answered) 0 a, le-leb (c .dwords) 16385 d, e)
+
+dwords-few : (s n : ℕ) → dwordsAfter s n ≤ 16385
+dwords-few s n =
+    by-test (ltb 16384 (s + n)) (λ e. let z : dwordsAfter s n ≡ 16385 = simp e in omega arith)
+    (λ e. let y = ltb-false 16384 (s + n) e in let z : dwordsAfter s n ≡ s + n = simp e in omega arith)
+
+module _ (w : Left) (h : Marked w) (c : Call) where
+  stays-stop : (target : Target) → chunkTaken target (w .carried) (c .chunk) (w .records)
+      ≡ left (carriedBy (dwordsAfter (w .carried .dwords) (length (c .chunk))) (resumed target (w .carried))) (w .records)
+  unfolding chunkTaken
+  stays-stop target =
+      ap leftBy (take-chunk (c .chunk) (w .carried .dwords) (stage (resumed target (w .carried)) (w .records)) (usable-few (w .carried) (h .goes))
+      ∙ ap (taken-of (dwordsAfter (w .carried .dwords) (length (c .chunk))))
+      (stage-stays (resumed target (w .carried)) (w .records) (λ e. let z = h .eighteenth in omega arith) (take (16384 - w .carried .dwords) (c .chunk))))
+    where
+      taken-of : ℕ → Stage → Taken
+      taken-of n s = record { dwords = n; stage = s }
+
+  still : (l : Left) → afterChunk (c .chip) (c .capacity) (w .carried) (c .chunk) (w .records) ≡ l → usable (l .carried) ≡ true → l .carried .stop ≡ 18
+      → c .last ≡ false → Marked (leaves w c)
+  still l e u s q =
+      let m : made w c ≡ outcome (fedOf false (length (w .records)) (l .carried)) (l .records) =
+      by-after (c .chip) (c .capacity) (w .carried) (c .chunk) (c .last) (w .records) (h .goes) l e
+      ∙ ap (λ (t : Bool). outcome (fedOf t (length (w .records)) (l .carried)) (l .records)) q in
+      record {
+        goes = ap (λ (o : Outcome). usable (o .fed .carried)) m ∙ u;
+        eighteenth = ap (λ (o : Outcome). o .fed .carried .stop) m ∙ s;
+      }
+
+  marked-more : c .last ≡ false → Marked (leaves w c)
+  marked-more q =
+      by-chips (c .chip) (Marked (leaves w c))
+      (λ n. still (left (refusedBy 18 0 (w .carried)) (w .records)) (after-none-named (c .chip) (c .capacity) (w .carried) (c .chunk) (c .last) (w .records) n)
+      (marked-usable 0 (refusedBy 18 0 (w .carried)) (usable-open (w .carried) (h .goes)) (usable-few (w .carried) (h .goes)) refl) refl q)
+      (λ ch e. let n = dwordsAfter (w .carried .dwords) (length (c .chunk)) in
+      let p = resumed (targetOf ch (c .capacity)) (w .carried) in
+      still (left (carriedBy n p) (w .records))
+      (after-named (c .chip) (c .capacity) (w .carried) (c .chunk) (c .last) (w .records) ch e ∙ stays-stop (targetOf ch (c .capacity)))
+      (marked-usable 0 (carriedBy n p) refl (dwords-few (w .carried .dwords) (length (c .chunk))) (h .eighteenth)) (h .eighteenth) q)
+
+  answers-eighteen : (x : Carried) → x .stop ≡ 18 → (n : ℕ) → answerAt n x ≡ refusedAnswer 18 0
+  unfolding answerAt
+  answers-eighteen x e n = simp e
+
+  marked-last : c .last ≡ true → made w c .fed .answer ≡ refusedAnswer 18 0
+  marked-last q =
+      by-chips (c .chip) (made w c .fed .answer ≡ refusedAnswer 18 0)
+      (λ n. by-left (left (refusedBy 18 0 (w .carried)) (w .records)) (after-none-named (c .chip) (c .capacity) (w .carried) (c .chunk) (c .last) (w .records) n) refl)
+      (λ ch e. by-left (left (carriedBy (dwordsAfter (w .carried .dwords) (length (c .chunk))) (resumed (targetOf ch (c .capacity)) (w .carried))) (w .records))
+      (after-named (c .chip) (c .capacity) (w .carried) (c .chunk) (c .last) (w .records) ch e ∙ stays-stop (targetOf ch (c .capacity))) (h .eighteenth))
+    where
+      by-left : (l : Left) → afterChunk (c .chip) (c .capacity) (w .carried) (c .chunk) (w .records) ≡ l → l .carried .stop ≡ 18 → made w c .fed .answer ≡ refusedAnswer 18 0
+      by-left l e s =
+          ap (λ (o : Outcome). o .fed .answer)
+          (by-after (c .chip) (c .capacity) (w .carried) (c .chunk) (c .last) (w .records) (h .goes) l e
+          ∙ ap (λ (t : Bool). outcome (fedOf t (length (w .records)) (l .carried)) (l .records)) q)
+          ∙ answers-eighteen (l .carried) s (length (w .records))
+
+marked-all : (cs : List Call) (w : Left) → Marked w → NotLast cs → Marked (leavesAll w cs)
+unfolding leavesAll
+marked-all [] w h n = h
+marked-all (c ∷ cs) w h n = marked-all cs (leaves w c) (marked-more w h c (n .0)) (n .1)
+
+-- a call that names no chip and says "more" leaves that mark
+marks : (w : Left) (c : Call) → Unnamed (c .chip) → made w c .fed .more ≡ 1 → Marked (leaves w c)
+marks w c n e =
     by-test (usable (w .carried))
-    (λ u. let k = afterChunk (c .chip) (c .capacity) (w .carried) (c .chunk) (w .records) .carried in
-    subst (λ (o : Outcome). Numbered (o .fed)) (sym (fed-usable (c .chip) (c .capacity) (w .carried) (c .chunk) (c .last) (w .records) u))
-    (by-last k (c .last) (after-stop (c .chip) (c .capacity) (w .carried) (c .chunk) (c .last) (w .records) u)))
-    (λ u. subst (λ (o : Outcome). Numbered (o .fed)) (sym (refused-made w u c)) (inr (inr refl)))
+    (λ u. let m = by-after (c .chip) (c .capacity) (w .carried) (c .chunk) (c .last) (w .records) u (left (refusedBy 18 0 (w .carried)) (w .records))
+    (after-none-named (c .chip) (c .capacity) (w .carried) (c .chunk) (c .last) (w .records) n) in
+    by-last u m (c .last) refl (sym (ap (λ (o : Outcome). o .fed .more) m) ∙ e))
+    (λ u. let z : _≡_ {A = ℕ} 0 1 = sym (ap (λ (o : Outcome). o .fed .more) (refused-made w u c)) ∙ e in absurd (omega arith))
   where
-    by-last : (k : Carried) (t : Bool) → okStop (k .stop) ≡ true → Numbered (fedOf t (length (w .records)) k)
-    by-last k true ok = answer-number (length (w .records)) k ok
-    by-last k false ok = inl (omega arith)
+    by-last : usable (w .carried) ≡ true → made w c ≡ outcome (fedOf (c .last) (length (w .records)) (refusedBy 18 0 (w .carried))) (w .records) → (t : Bool) → c .last ≡ t
+        → fedOf (c .last) (length (w .records)) (refusedBy 18 0 (w .carried)) .more ≡ 1 → Marked (leaves w c)
+    by-last u m true q f =
+        let z : _≡_ {A = ℕ} 0 1 = sym (ap (λ (t : Bool). fedOf t (length (w .records)) (refusedBy 18 0 (w .carried)) .more) q) ∙ f in absurd (omega arith)
+    by-last u m false q f =
+        let o : made w c ≡ outcome (saysMore (refusedBy 18 0 (w .carried))) (w .records) =
+        m ∙ ap (λ (t : Bool). outcome (fedOf t (length (w .records)) (refusedBy 18 0 (w .carried))) (w .records)) q in
+        record {
+          goes = ap (λ (x : Outcome). usable (x .fed .carried)) o
+              ∙ marked-usable 0 (refusedBy 18 0 (w .carried)) (usable-open (w .carried) u) (usable-few (w .carried) u) refl;
+          eighteenth = ap (λ (x : Outcome). x .fed .carried .stop) o;
+        }
+
+pub unread : (w : Left) (c : Call) (between : List Call) (last : Call) → Unread w c between last
+unread w c between last n m nl q = marked-last (leavesAll (leaves w c) between) (marked-all between (leaves w c) (marks w c n m) nl) last q
 
 -- THE GUARDS
 cut-all : (ns b : List ℕ) → joined (cutAt ns b) (lastOf ns b) ≡ b
@@ -415,15 +537,32 @@ cut-last : (chunks : List (List ℕ)) (last : List ℕ) → lastOf (lengthsOf ch
 cut-last [] last = refl
 cut-last (chunk ∷ chunks) last = ap (lastOf (lengthsOf chunks)) (drop-append-seam chunk (joined chunks last)) ∙ cut-last chunks last
 
+cut-each : (chip capacity : ℕ) (chunks : List (List ℕ)) → chunksOf (calls chip capacity chunks) ≡ chunks
+cut-each chip capacity [] = refl
+cut-each chip capacity (chunk ∷ chunks) = ap (_∷_ chunk) (cut-each chip capacity chunks)
+
+cut-throughout : (chip capacity : ℕ) (chunks : List (List ℕ)) → Throughout chip capacity (calls chip capacity chunks)
+cut-throughout chip capacity [] = tt
+cut-throughout chip capacity (chunk ∷ chunks) = (refl, cut-throughout chip capacity chunks)
+
 -- THEOREM
 pub chunked : Chunked
 chunked =
     record {
       cut = cut;
       earlier = earlier;
-      late = late;
+      said = said;
+      unread = unread;
       numbered = numbered;
-      guards = record { cut = λ b ns. cut-all ns b; chunks = cut-chunks; last = cut-last; complete = complete };
+      guards =
+          record {
+            cut = λ b ns. cut-all ns b;
+            chunks = cut-chunks;
+            last = cut-last;
+            each = cut-each;
+            throughout = cut-throughout;
+            complete = complete;
+          };
     }
 
 -- LAW: demand 3

@@ -13,15 +13,13 @@ use Rattle.chips.specs.Chips.{targetOf, onChip, ForChip, Unnamed}
 use Rattle.command.specs.Order.{Command}
 use Rattle.record.specs.Record.{recordOf}
 use Rattle.reading.specs.Reading.{readingOf}
-use Rattle.reading.specs.Isolation.{Alike}
 use Rattle.reading.specs.Vfes.{commandNumber}
 use Rattle.records.specs.Records.{slot}
-use Rattle.batch.specs.declared.Answer.{Answer}
-use Rattle.batch.specs.Answers.{refusedAnswer, acceptedAnswer, answerOf, recordsOf}
+use Rattle.batch.specs.Answers.{refusedAnswer, answerOf, recordsOf}
 use Rattle.progress.specs.Fitting.{writtenFit}
 use Rattle.feed.specs.declared.Carried.{Carried}
 use Rattle.feed.specs.declared.Fed.{Fed}
-use Rattle.feed.specs.Feeding.{fresh, Left, left, saysMore, gives, Outcome, feedOf}
+use Rattle.feed.specs.Feeding.{fresh, Left, left, gives, Outcome, outcome, feedOf}
 
 -- a call: what it is given beside the carried state and the record buffer
 pub record Call : Type 0 where
@@ -101,10 +99,12 @@ pub record Cut (chip capacity : ℕ) (chunks : List (List ℕ)) (last r : List �
   pub accepted : answerOf chip capacity (joined chunks last) r .number ≡ 0
       → lastMade chip capacity chunks last r .records ≡ recordsOf chip capacity (joined chunks last) r
 
--- "Only that call answers": each call before it says "more", and leaves the records of the commands complete so far.
+-- "Only that call answers": each call before it says "more", where the numbers of an answer are 0, and leaves the records of the commands
+-- complete so far.
 pub record Earlier (chip capacity : ℕ) (chunks : List (List ℕ)) (chunk r : List ℕ) : Type 0 where
-  pub says : made (beforeLast chip capacity chunks r) (call chip capacity chunk false) .fed
-      ≡ saysMore (leaves (beforeLast chip capacity chunks r) (call chip capacity chunk false) .carried)
+  pub says : made (beforeLast chip capacity chunks r) (call chip capacity chunk false) .fed .more ≡ 1
+  pub free : made (beforeLast chip capacity chunks r) (call chip capacity chunk false) .fed .answer
+      ≡ record { number = 0; place = 0; commands = 0; dwords = 0 }
   pub records : made (beforeLast chip capacity chunks r) (call chip capacity chunk false) .records
       ≡ recordsKept chip capacity (joined chunks chunk) r
 
@@ -112,12 +112,28 @@ pub record Earlier (chip capacity : ℕ) (chunks : List (List ℕ)) (chunk r : L
 abbrev pub Complete : Target → List ℕ → List ℕ → Type 0
 Complete target b more = endWithin (length b) (readingOf target (b ++ more) .passed) ≡ readingOf target b .passed
 
--- "19, a chunk offered after an answer was given": after w every further call, whatever it is given, is refused with 19 at 0, and changes
--- neither the carried state nor the record buffer
-pub record Late (w : Left) (late : List Call) (next : Call) : Type 0 where
-  pub unchanged : leavesAll w late ≡ w
-  pub nineteen : made (leavesAll w late) next .fed ≡ gives (w .carried) (refusedAnswer 19 0)
-  pub kept : made (leavesAll w late) next .records ≡ w .records
+-- "19, a chunk offered after an answer was given": a call with this carried state, whatever else it is given, is refused with 19 at 0, and
+-- changes neither the carried state nor the record buffer; and so does every call after it
+abbrev pub Late : Carried → Type 0
+Late c = (chip capacity : ℕ) (chunk : List ℕ) (last : Bool) (r : List ℕ)
+    → feedOf chip capacity c chunk last r ≡ outcome (gives c (refusedAnswer 19 0)) r
+
+-- what any call says, from whatever carried state: the last answers; 19 changes nothing; after an answer there is 19 alone
+pub record Said (w : Left) (c : Call) : Type 0 where
+  pub last : c .last ≡ true → made w c .fed .more ≡ 0
+  pub refused : made w c .fed .answer .number ≡ 19 → made w c ≡ outcome (gives (w .carried) (refusedAnswer 19 0)) (w .records)
+  pub late : made w c .fed .more ≡ 0 → Late (made w c .fed .carried)
+
+-- calls of which none is the last
+abbrev pub NotLast : List Call → Type 0
+NotLast [] = Unit
+NotLast (c ∷ cs) = (c .last ≡ false) × NotLast cs
+
+-- Once a call has named no chip and was taken, the last one answers 18, whatever it and those between name: no part of a batch goes unread.
+abbrev pub Unread : Left → Call → List Call → Call → Type 0
+Unread w c between last =
+    Unnamed (c .chip) → made w c .fed .more ≡ 1 → NotLast between → last .last ≡ true
+    → made (leavesAll (leaves w c) between) last .fed .answer ≡ refusedAnswer 18 0
 
 -- a call's answer has one of the papers' numbers, from whatever carried state
 abbrev pub Numbered : Fed → Type 0
@@ -144,18 +160,30 @@ abbrev pub lengthsOf : List (List ℕ) → List ℕ
 lengthsOf [] = []
 lengthsOf (chunk ∷ chunks) = length chunk ∷ lengthsOf chunks
 
--- The guards: the cuttings are all there are. Any list cut at any places is one, of that list, and any chunks and last chunk are one.
+-- the chunks of calls, and calls for one chip and capacity of which none is the last
+abbrev pub chunksOf : List Call → List (List ℕ)
+chunksOf [] = []
+chunksOf (c ∷ cs) = c .chunk ∷ chunksOf cs
+
+abbrev pub Throughout : ℕ → ℕ → List Call → Type 0
+Throughout chip capacity [] = Unit
+Throughout chip capacity (c ∷ cs) = (c ≡ call chip capacity (c .chunk) false) × Throughout chip capacity cs
+
+-- The guards: the cuttings are all there are. Any list, cut at any places, is a cutting of it; every list of chunks with a last one is some
+-- list cut so; and a call is made for each chunk.
 pub record Guards : Type 0 where
   pub cut : (b lengths : List ℕ) → joined (cutAt lengths b) (lastOf lengths b) ≡ b
   pub chunks : (chunks : List (List ℕ)) (last : List ℕ) → cutAt (lengthsOf chunks) (joined chunks last) ≡ chunks
   pub last : (chunks : List (List ℕ)) (last : List ℕ) → lastOf (lengthsOf chunks) (joined chunks last) ≡ last
+  pub each : (chip capacity : ℕ) (chunks : List (List ℕ)) → chunksOf (calls chip capacity chunks) ≡ chunks
+  pub throughout : (chip capacity : ℕ) (chunks : List (List ℕ)) → Throughout chip capacity (calls chip capacity chunks)
   -- which commands are complete is said of what has come: no dword that comes later changes it
   pub complete : (target : Target) (b more : List ℕ) → Complete target b more
 
 pub record Chunked : Type 0 where
   pub cut : (chip capacity : ℕ) (chunks : List (List ℕ)) (last r : List ℕ) → Cut chip capacity chunks last r
   pub earlier : (chip capacity : ℕ) (chunks : List (List ℕ)) (chunk r : List ℕ) → Earlier chip capacity chunks chunk r
-  -- after any answer, to whatever was carried
-  pub late : (w : Left) (c : Call) → made w c .fed .more ≡ 0 → (late : List Call) (next : Call) → Late (leaves w c) late next
+  pub said : (w : Left) (c : Call) → Said w c
+  pub unread : (w : Left) (c : Call) (between : List Call) (last : Call) → Unread w c between last
   pub numbered : (w : Left) (c : Call) → Numbered (made w c .fed)
   pub guards : Guards
