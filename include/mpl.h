@@ -151,6 +151,53 @@ struct mpl_batch mpl_check_batch(uint32_t chip, const uint8_t *batch, size_t bat
                                  size_t records_len);
 
 /*
+ * A batch that comes in parts: the batch check over dwords, fed chunk by chunk. The caller starts from a carried state of zeros
+ * (struct mpl_carried carried = {0};), gives each call the `carried` that the one before returned, names one chip and one capacity and
+ * lends one record buffer throughout, and marks the last chunk by a `last` that is not 0. A chunk may be cut at any dword, and may be
+ * empty. Calls before the last say `more`, whatever they met. The last answers as mpl_check_batch_dwords does on all the chunks joined:
+ * the same number, place, commands and dwords; 1 goes by the sum of all chunks.
+ * Records are written as commands pass, as many whole ones as fit in `records`: after each call those of the commands that are complete so
+ * far, up to the first that is faulty. After acceptance they are those of mpl_check_batch_dwords; after a refusal they are those of
+ * the commands passed that end within the first 16,384 dwords (after 18 none). Every other word of `records` is as it was.
+ * One more number, asked before 18: after any answer, 0 or a refusal, every further call, last or not, empty or not, gives 19 at 0, hands
+ * the carried state back as it is, and leaves `records` as it was. "more" is no answer.
+ */
+enum {
+    MPL_ANSWERED = 19           /* a chunk offered after an answer was given; place 0 */
+};
+
+enum { MPL_STOP_END = 255 };    /* stop, below: END was met */
+
+/*
+ * What is carried from call to call: numbers alone, for the library's own use; all zero before the first chunk.
+ * A caller's own mistakes: each call goes by the chip, the capacity and the record buffer that it is given; once a call has named no
+ * chip, the last one answers 18, whatever it names. A carried state that no call returned is answered with 19, and nothing changes,
+ * where `answered` is not 0, `dwords` is over 16,385, or `stop` is none of 0, 3 to 9, 18 and 255; or where `stop` is 0 and `place` is
+ * over `dwords` or over 16,384, or `commands` or `objects` over `place`. Any other is gone on from as it stands; whatever it holds, the
+ * call ends, stays inside what it was lent, and answers one of the numbers above.
+ */
+struct mpl_carried {
+    uint32_t answered;      /* 1: an answer was given */
+    uint32_t dwords;        /* that have come; 16,385 for any more */
+    uint32_t stop;          /* 0: reading goes on; MPL_STOP_END; else the number of the refusal that was met: 3, 4, 6 to 9 or 18 */
+    uint32_t place;         /* while reading goes on, of the command that is not whole yet, or of the next; after END the dwords read;
+                               else of the refusal */
+    uint32_t own[8];        /* of the command that is not whole yet: the dwords that have come, without inline data, then zeros */
+    uint32_t earlier_vfe, vfe_in_force, vfe_dword_1, vfe_dword_2, vfe_dword_3, vfe_dword_4;
+    uint32_t count_loaded, standing, commands, objects;
+};
+
+/* more 1: the chunk was taken, and the numbers after it are 0. more 0: number, place, commands and dwords as in mpl_batch. */
+struct mpl_fed {
+    struct mpl_carried carried;
+    uint64_t more, number, place, commands, dwords;
+};
+
+/* The chunk is never written. Lengths in dwords. */
+struct mpl_fed mpl_feed(uint32_t chip, struct mpl_carried carried, const uint32_t *chunk, size_t chunk_len, uint32_t last,
+                        uint32_t capacity, uint32_t *records, size_t records_len);
+
+/*
  * Why a run is turned away; 1 to 10 and 17 are the batch's, 17 also the run's, 18 the chip's. 22, 24 and 25 are of a start, 23 of a finish;
  * "it" is the object started. An object uses a scoreboard where its own bit and its VFE's enable are both set. It waits for each object
  * before it in the batch that is unfinished, uses a scoreboard, has its colour, and whose X and Y are its own plus a delta in play, as
