@@ -172,9 +172,9 @@ enum { MPL_STOP_END = 255 };    /* stop, below: END was met */
  * What is carried from call to call: numbers alone, for the library's own use; all zero before the first chunk.
  * A caller's own mistakes: each call goes by the chip, the capacity and the record buffer that it is given; once a call has named no
  * chip, the last one answers 18, whatever it names. A carried state that no call returned is answered with 19, and nothing changes,
- * where `answered` is not 0, `dwords` is over 16,385, or `stop` is none of 0, 3 to 9, 18 and 255; or where `stop` is 0 and `place` is
- * over `dwords` or over 16,384, or `commands` or `objects` over `place`. Any other is gone on from as it stands; whatever it holds, the
- * call ends, stays inside what it was lent, and answers one of the numbers above.
+ * where `answered` is not 0, `dwords` is over 16,385, or `stop` is none of 0, 3 to 9, 18 and 255; or where `stop` is 0 and `place` plus
+ * `got` is over `dwords` or over 16,384, or `commands` or `objects` over `place`. Any other is gone on from as it stands; whatever it
+ * holds, the call ends, stays inside what it was lent, and answers one of the numbers above.
  */
 struct mpl_carried {
     uint32_t answered;      /* 1: an answer was given */
@@ -182,6 +182,7 @@ struct mpl_carried {
     uint32_t stop;          /* 0: reading goes on; MPL_STOP_END; else the number of the refusal that was met: 3, 4, 6 to 9 or 18 */
     uint32_t place;         /* while reading goes on, of the command that is not whole yet, or of the next; after END the dwords read;
                                else of the refusal */
+    uint32_t got;           /* how many dwords have come of the command that is not whole yet */
     uint32_t own[8];        /* of the command that is not whole yet: the dwords that have come, without inline data, then zeros */
     uint32_t earlier_vfe, vfe_in_force, vfe_dword_1, vfe_dword_2, vfe_dword_3, vfe_dword_4;
     uint32_t count_loaded, standing, commands, objects;
