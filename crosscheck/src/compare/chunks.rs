@@ -45,7 +45,7 @@ const REACHED: &[(&str, &[u64])] = &[
     (sorts::NO_CHIP_FIRST, &[18]),
     (sorts::NO_CHIP_BETWEEN, &[18]),
     (sorts::NO_CHIP_LAST, &[18]),
-    (sorts::OTHER_CHIP, &[0]),
+    (sorts::OTHER_CHIP, &[0, 3, 6]),
     (sorts::OTHER_CAPACITY, &[0, 9]),
     (sorts::OTHER_ROOM, &[0, 10]),
     (sorts::BELOW_LIMIT, &[0, 2, 3]),

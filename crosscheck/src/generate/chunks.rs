@@ -114,7 +114,7 @@ pub const NO_CHIP: &str = "no chip";
 pub const NO_CHIP_FIRST: &str = "no chip at first";
 pub const NO_CHIP_BETWEEN: &str = "no chip in between";
 pub const NO_CHIP_LAST: &str = "no chip at last";
-pub const OTHER_CHIP: &str = "another chip for later commands";
+pub const OTHER_CHIP: &str = "another chip in each call";
 pub const OTHER_CAPACITY: &str = "another capacity in each call";
 pub const OTHER_ROOM: &str = "another record buffer in each call";
 pub const BELOW_LIMIT: &str = "16,383 dwords";
@@ -369,21 +369,22 @@ impl Sweep {
         }
     }
 
-    /// Each call goes by what it is given. Where the chip changes, no command is cut.
+    /// Each call goes by what it is given; a command that was cut goes by the call in which
+    /// its last dword comes.
     fn other_lendings(&mut self) {
         for _ in 0..400 {
             let dwords = self.random.between(20, 120);
             let batch = batch::mixed_of(&mut self.random, self.chip, dwords);
-            let commands = starts(&batch);
+            let exact = RECORD * starts(&batch).len();
             let whole = with_room(self.chip, batch, u32::MAX);
 
-            let mut cuts = vec![self.random.pick(&commands), self.random.pick(&commands)];
-            cuts.sort_unstable();
+            let cuts = any_cuts(&mut self.random, dwords);
             let mut case = Case::new(OTHER_CHIP, whole.clone(), &cuts);
-            case.calls[1].chip = batch::other_chip(self.chip);
+            for call in &mut case.calls {
+                call.chip = self.random.pick(&CHIPS);
+            }
             self.cases.push(case);
 
-            let cuts = any_cuts(&mut self.random, dwords);
             let mut case = Case::new(OTHER_CAPACITY, whole.clone(), &cuts);
             for call in &mut case.calls {
                 call.capacity = self.random.pick(&[0, 6, 100_000, u32::MAX, u32::MAX]);
@@ -391,10 +392,9 @@ impl Sweep {
             self.cases.push(case);
 
             let mut case = Case::new(OTHER_ROOM, whole, &cuts);
-            let most = RECORD * commands.len();
             for call in &mut case.calls {
-                let any = self.random.below(most + 20);
-                call.records = self.random.pick(&[0, 15, any, most, most, most + 3]);
+                let any = self.random.below(exact + 20);
+                call.records = self.random.pick(&[0, 15, any, exact, exact, exact + 3]);
             }
             self.cases.push(case);
         }
