@@ -35,7 +35,7 @@ pub struct Carried {
     /// 0 where none is cut.
     come: u32,
     missing: u32,
-    /// Its first dwords, as many as have come.
+    /// Its first dwords, as many as have come; what stands after these is of no account.
     own: [u32; OWN],
 }
 
