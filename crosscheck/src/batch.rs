@@ -28,7 +28,7 @@ pub const STATE_FLUSH: u32 = 0x7004;
 pub const OBJECT: u32 = 0x7100;
 
 /// Dwords of an OBJECT before its inline data.
-const OBJECT_FIXED: usize = 6;
+pub(crate) const OBJECT_FIXED: usize = 6;
 
 /// What an entry answers. On success the place is 0, on refusal commands and
 /// dwords are 0. Laid out as in C, so that the library can answer with it too.
@@ -177,28 +177,74 @@ pub(crate) struct Refusal {
     pub place: usize,
 }
 
-fn refuse<T>(number: u64, place: usize) -> Result<T, Refusal> {
+pub(crate) fn refuse<T>(number: u64, place: usize) -> Result<T, Refusal> {
     Err(Refusal { number, place })
 }
 
 /// What rules 8 and 9 remember of the commands before.
-struct State<'a, W> {
+#[derive(Clone, Copy, Debug, PartialEq, Eq)]
+pub(crate) struct State<V> {
     /// The VFE in force: the last one.
-    vfe: Option<&'a [W; 8]>,
+    vfe: Option<V>,
     /// What stands in a later command's way: bits below.
-    stands: u8,
+    stands: u32,
     /// OBJECTs so far.
-    objects: usize,
+    pub objects: u32,
     /// The count last loaded; a VFE keeps it.
     descriptors: u32,
 }
 
+impl<V> State<V> {
+    pub const START: Self = State {
+        vfe: None,
+        stands: 0,
+        objects: 0,
+        descriptors: 0,
+    };
+
+    /// What the rules ask of it for an OBJECT.
+    pub fn for_objects(&self) -> State<()> {
+        State {
+            vfe: None,
+            stands: self.stands,
+            objects: self.objects,
+            descriptors: self.descriptors,
+        }
+    }
+
+    pub fn pass_objects(&mut self, count: u32) {
+        self.stands = OBJECTS;
+        self.objects += count;
+    }
+
+    /// MI_FLUSH: nothing stands.
+    pub fn flush(&mut self) {
+        self.stands = 0;
+    }
+}
+
+/// The VFE in force as a check keeps it: where it stands, or what the rules ask of it.
+pub(crate) trait InForce<'a, W>: Copy {
+    fn of(command: &'a [W; 8]) -> Self;
+    /// Dwords 1 to 4.
+    fn dwords(self) -> [u32; 4];
+}
+
+impl<'a, W: Word> InForce<'a, W> for &'a [W; 8] {
+    fn of(command: &'a [W; 8]) -> Self {
+        command
+    }
+    fn dwords(self) -> [u32; 4] {
+        [1, 2, 3, 4].map(|dword| self[dword].get())
+    }
+}
+
 /// A command of kind 3, 4, 5, 7 or 8 stands since the last MI_FLUSH or the start.
-const SINCE_FLUSH: u8 = 0b001;
+const SINCE_FLUSH: u32 = 0b001;
 /// One stands since the last MI_FLUSH or state flush or the start.
-const SINCE_EITHER: u8 = 0b011;
+const SINCE_EITHER: u32 = 0b011;
 /// An OBJECT stands since then.
-const OBJECTS: u8 = 0b111;
+const OBJECTS: u32 = 0b111;
 
 /// First pass: rules 1 to 9. Writes nothing.
 fn judge<C: Chip, W: Word>(batch: &[W], capacity: u32) -> Result<Accepted, Refusal> {
@@ -229,12 +275,7 @@ fn read<C: Chip, W: Word>(
     capacity: u32,
     mut passed: impl FnMut(Range<usize>),
 ) -> Result<Accepted, Refusal> {
-    let mut state = State {
-        vfe: None,
-        stands: 0,
-        objects: 0,
-        descriptors: 0,
-    };
+    let mut state = State::<&[W; 8]>::START;
     let mut rest = batch;
     let mut commands = 0;
     loop {
@@ -249,7 +290,7 @@ fn read<C: Chip, W: Word>(
             // where the next one begins is known before it is read.
             OBJECT => loop {
                 let place = batch.len() - rest.len();
-                let next = object::<C, W>(rest, header, place, &mut state)?;
+                let next = object::<C, W, _>(rest, header, place, &mut state)?;
                 passed(place + OBJECT_FIXED..batch.len() - next.len());
                 match next.first() {
                     Some(first) if first.get() == header => rest = next,
@@ -257,17 +298,12 @@ fn read<C: Chip, W: Word>(
                 }
                 commands += 1;
             },
-            VFE => vfe::<C, W>(rest, header, place, &mut state, capacity)?,
-            CURBE => curbe::<C, W>(rest, header, place, &mut state)?,
-            DESCRIPTOR => descriptor::<C, W>(rest, header, place, &mut state)?,
-            STATE_FLUSH => {
-                let (command, next) = fixed::<W, 2>(rest, header, place)?;
-                must_be_zero(command, &C::MASKS.state_flush, place)?;
-                state.stands &= SINCE_FLUSH;
-                next
-            }
+            VFE => vfe::<C, W, _>(rest, header, place, &mut state, capacity)?,
+            CURBE => curbe::<C, W, _>(rest, header, place, &mut state)?,
+            DESCRIPTOR => descriptor::<C, W, _>(rest, header, place, &mut state)?,
+            STATE_FLUSH => state_flush::<C, W, _>(rest, header, place, &mut state)?,
             GATEWAY if C::HAS_GATEWAY => {
-                let next = gateway::<C, W>(rest, header, place, &mut state)?;
+                let next = gateway::<C, W, _>(rest, header, place, &mut state)?;
                 // Barriers are set up one after the other.
                 let more = more_gateways::<C, W>(next, header);
                 commands += more;
@@ -282,14 +318,14 @@ fn read<C: Chip, W: Word>(
                     &next[more..]
                 }
                 FLUSH => {
-                    state.stands = 0;
+                    state.flush();
                     next
                 }
                 END => {
                     return Ok(Accepted {
                         commands,
                         dwords: place + 1,
-                        objects: state.objects,
+                        objects: state.objects as usize,
                     })
                 }
                 _ => return refuse(3, place),
@@ -300,35 +336,43 @@ fn read<C: Chip, W: Word>(
 
 type Judged<'a, W> = Result<&'a [W], Refusal>;
 
-fn object<'a, C: Chip, W: Word>(
+pub(crate) fn object<'a, C: Chip, W: Word, V>(
     rest: &'a [W],
     header: u32,
     place: usize,
-    state: &mut State<'a, W>,
+    state: &mut State<V>,
 ) -> Judged<'a, W> {
-    let total = length_field(header) + 2;
+    let total = total(header);
     if total < OBJECT_FIXED {
         return refuse(4, place);
     }
     let Some((command, next)) = rest.split_at_checked(total) else {
         return refuse(5, place);
     };
-    let command = whole::<W, OBJECT_FIXED>(command);
+    whole_object::<C, W, V>(whole(command), place, state)?;
+    Ok(next)
+}
+
+/// Rules 6 to 8 for an OBJECT that is all there, by its dwords before the inline data.
+pub(crate) fn whole_object<C: Chip, W: Word, V>(
+    command: &[W; OBJECT_FIXED],
+    place: usize,
+    state: &mut State<V>,
+) -> Result<(), Refusal> {
     must_be_zero(command, &C::MASKS.object, place)?;
     // A load needs a VFE, so a count above the index means that one stands earlier.
     if command[1].get() & 0x3f >= state.descriptors {
         return refuse(8, place);
     }
-    state.stands = OBJECTS;
-    state.objects += 1;
-    Ok(next)
+    state.pass_objects(1);
+    Ok(())
 }
 
-fn vfe<'a, C: Chip, W: Word>(
+pub(crate) fn vfe<'a, C: Chip, W: Word, V: InForce<'a, W>>(
     rest: &'a [W],
     header: u32,
     place: usize,
-    state: &mut State<'a, W>,
+    state: &mut State<V>,
     capacity: u32,
 ) -> Judged<'a, W> {
     let (command, next) = fixed::<W, 8>(rest, header, place)?;
@@ -342,17 +386,18 @@ fn vfe<'a, C: Chip, W: Word>(
     if entries * entry_size + curbe_size(command) > capacity {
         return refuse(9, place);
     }
-    state.vfe = Some(command);
+    state.vfe = Some(V::of(command));
     state.stands = SINCE_EITHER;
     Ok(next)
 }
 
-fn curbe_size<W: Word>(vfe: &[W; 8]) -> u32 {
-    vfe[4].get() & 0xffff
+fn curbe_size<'a, W: Word>(vfe: impl InForce<'a, W>) -> u32 {
+    let [_, _, _, dword_4] = vfe.dwords();
+    dword_4 & 0xffff
 }
 
 /// Rule 8 for a VFE. Where it changes the scoreboard alone, a state flush is enough.
-fn may_change<W: Word>(command: &[W; 8], state: &State<W>) -> bool {
+fn may_change<'a, W: Word, V: InForce<'a, W>>(command: &'a [W; 8], state: &State<V>) -> bool {
     match (state.stands, state.vfe) {
         (0, _) => true,
         (SINCE_FLUSH, Some(vfe)) => only_scoreboard(command, vfe),
@@ -362,18 +407,17 @@ fn may_change<W: Word>(command: &[W; 8], state: &State<W>) -> bool {
 
 /// Whether a VFE differs from the one in force in scoreboard enable, type, mask and deltas
 /// at most. They fill dwords 5 to 7, but for bits that rule 6 has found zero in both.
-fn only_scoreboard<W: Word>(command: &[W; 8], in_force: &[W; 8]) -> bool {
-    let others = (1..5).fold(0, |joined, dword| {
-        joined | command[dword].get() ^ in_force[dword].get()
-    });
+fn only_scoreboard<'a, W: Word>(command: &'a [W; 8], in_force: impl InForce<'a, W>) -> bool {
+    let both = command.dwords().into_iter().zip(in_force.dwords());
+    let others = both.fold(0, |joined, (own, other)| joined | own ^ other);
     others == 0
 }
 
-fn curbe<'a, C: Chip, W: Word>(
+pub(crate) fn curbe<'a, C: Chip, W: Word, V: InForce<'a, W>>(
     rest: &'a [W],
     header: u32,
     place: usize,
-    state: &mut State<'a, W>,
+    state: &mut State<V>,
 ) -> Judged<'a, W> {
     let (command, next) = fixed::<W, 4>(rest, header, place)?;
     must_be_zero(command, &C::MASKS.curbe, place)?;
@@ -394,11 +438,11 @@ fn curbe<'a, C: Chip, W: Word>(
     Ok(next)
 }
 
-fn descriptor<'a, C: Chip, W: Word>(
+pub(crate) fn descriptor<'a, C: Chip, W: Word, V>(
     rest: &'a [W],
     header: u32,
     place: usize,
-    state: &mut State<'a, W>,
+    state: &mut State<V>,
 ) -> Judged<'a, W> {
     let (command, next) = fixed::<W, 4>(rest, header, place)?;
     must_be_zero(command, &C::MASKS.descriptor, place)?;
@@ -417,11 +461,11 @@ fn descriptor<'a, C: Chip, W: Word>(
     Ok(next)
 }
 
-fn gateway<'a, C: Chip, W: Word>(
+pub(crate) fn gateway<'a, C: Chip, W: Word, V>(
     rest: &'a [W],
     header: u32,
     place: usize,
-    state: &mut State<'a, W>,
+    state: &mut State<V>,
 ) -> Judged<'a, W> {
     let (command, next) = fixed::<W, 2>(rest, header, place)?;
     must_be_zero(command, &C::MASKS.gateway, place)?;
@@ -432,16 +476,29 @@ fn gateway<'a, C: Chip, W: Word>(
     Ok(next)
 }
 
+pub(crate) fn state_flush<'a, C: Chip, W: Word, V>(
+    rest: &'a [W],
+    header: u32,
+    place: usize,
+    state: &mut State<V>,
+) -> Judged<'a, W> {
+    let (command, next) = fixed::<W, 2>(rest, header, place)?;
+    must_be_zero(command, &C::MASKS.state_flush, place)?;
+    state.stands &= SINCE_FLUSH;
+    Ok(next)
+}
+
 /// How many sound commands of the same header follow one that has passed.
-fn more_gateways<C: Chip, W: Word>(rest: &[W], header: u32) -> usize {
+pub(crate) fn more_gateways<C: Chip, W: Word>(rest: &[W], header: u32) -> usize {
     let sound = |[first, dword]: &&[W; 2]| {
         (first.get() ^ header) | (dword.get() & C::MASKS.gateway[1]) == 0
     };
     rest.as_chunks().0.iter().take_while(sound).count()
 }
 
-fn length_field(header: u32) -> usize {
-    (header & 0xffff) as usize
+/// Dwords of a media command, by its length field.
+pub(crate) fn total(header: u32) -> usize {
+    (header & 0xffff) as usize + 2
 }
 
 /// Rules 4 and 5 for a command of `N` dwords.
@@ -450,7 +507,7 @@ fn fixed<W: Word, const N: usize>(
     header: u32,
     place: usize,
 ) -> Result<(&[W; N], &[W]), Refusal> {
-    if length_field(header) + 2 != N {
+    if total(header) != N {
         return refuse(4, place);
     }
     match rest.split_first_chunk() {
@@ -485,7 +542,7 @@ fn first_stray<W: Word>(command: &[W], masks: &Masks) -> usize {
 }
 
 /// The first `N` dwords of a command already known to hold them.
-fn whole<W: Word, const N: usize>(command: &[W]) -> &[W; N] {
+pub(crate) fn whole<W: Word, const N: usize>(command: &[W]) -> &[W; N] {
     command.first_chunk().expect("a command judged whole")
 }
 
@@ -505,9 +562,9 @@ pub(crate) fn decode<C: Chip, W: Word>(batch: &[W], records: &mut [[W; RECORD]])
             // As in the first pass, while the header stays the same.
             OBJECT => loop {
                 let place = (batch.len() - rest.len()) as u32;
-                let total = length_field(header) + 2;
+                let total = total(header);
                 let (command, next) = rest.split_at(total);
-                *record = object_record(command, place, vfe, objects);
+                *record = object_record(whole(command).map(W::get), place, vfe, objects);
                 objects += 1;
                 match next.first() {
                     Some(first) if first.get() == header => rest = next,
@@ -516,62 +573,43 @@ pub(crate) fn decode<C: Chip, W: Word>(batch: &[W], records: &mut [[W; RECORD]])
                 record = records.next().expect("a record for each command");
             },
             VFE => {
-                let [_, _, w2, _, w4, w5, w6, w7] = whole::<W, 8>(rest).map(W::get);
-                let fields = [
-                    w2 >> 16,
-                    w2 >> 8 & 0xff,
-                    w2 >> 6 & 1,
-                    w4 >> 16,
-                    w4 & 0xffff,
-                    w5,
-                    w6,
-                    w7,
-                ];
-                fill(record, [3, place, 8], fields);
+                vfe_record(record, whole(rest), place);
                 vfe = (commands - records.len() - 1) as u32;
                 8
             }
             CURBE => {
-                let [_, _, w2, w3] = whole::<W, 4>(rest).map(W::get);
-                fill(record, [4, place, 4], [w2 & 0x1_ffff, w3]);
+                curbe_record(record, whole(rest), place);
                 4
             }
             DESCRIPTOR => {
-                let [_, _, w2, w3] = whole::<W, 4>(rest).map(W::get);
-                fill(record, [5, place, 4], [(w2 & 0x1_ffff) / 32, w3]);
+                descriptor_record(record, whole(rest), place);
                 4
             }
             STATE_FLUSH => {
-                let [_, w1] = whole::<W, 2>(rest).map(W::get);
-                fill(record, [6, place, 2], [w1]);
+                state_flush_record(record, whole(rest), place);
                 2
             }
             GATEWAY if C::HAS_GATEWAY => {
-                let [_, w1] = whole::<W, 2>(rest).map(W::get);
-                fill(record, [8, place, 2], [w1]);
+                gateway_record(record, whole(rest), place);
                 while rest[2].get() == header {
                     rest = &rest[2..];
                     let place = (batch.len() - rest.len()) as u32;
-                    let [_, w1] = whole::<W, 2>(rest).map(W::get);
                     let record = records.next().expect("a record for each command");
-                    fill(record, [8, place, 2], [w1]);
+                    gateway_record(record, whole(rest), place);
                 }
                 2
             }
             _ => {
                 match header {
-                    NOOP => fill(record, [0, place, 1], []),
-                    FLUSH => fill(record, [1, place, 1], []),
-                    _ => fill(record, [2, place, 1], []),
+                    NOOP => plain_record(record, 0, place),
+                    FLUSH => plain_record(record, 1, place),
+                    _ => plain_record(record, 2, place),
                 }
                 while header == NOOP && rest[1].get() == NOOP {
                     rest = &rest[1..];
                     let place = (batch.len() - rest.len()) as u32;
-                    fill(
-                        records.next().expect("a record for each command"),
-                        [0, place, 1],
-                        [],
-                    );
+                    let record = records.next().expect("a record for each command");
+                    plain_record(record, 0, place);
                 }
                 1
             }
@@ -580,8 +618,50 @@ pub(crate) fn decode<C: Chip, W: Word>(batch: &[W], records: &mut [[W; RECORD]])
     }
 }
 
-fn object_record<W: Word>(command: &[W], place: u32, vfe: u32, number: u32) -> [W; RECORD] {
-    let [header, w1, w2, w3, w4, w5] = whole::<W, OBJECT_FIXED>(command).map(W::get);
+/// Kinds 0 to 2.
+pub(crate) fn plain_record<W: Word>(record: &mut [W; RECORD], kind: u32, place: u32) {
+    fill(record, [kind, place, 1], []);
+}
+
+pub(crate) fn vfe_record<W: Word>(record: &mut [W; RECORD], command: &[W; 8], place: u32) {
+    let [_, _, w2, _, w4, w5, w6, w7] = command.map(W::get);
+    let fields = [
+        w2 >> 16,
+        w2 >> 8 & 0xff,
+        w2 >> 6 & 1,
+        w4 >> 16,
+        w4 & 0xffff,
+        w5,
+        w6,
+        w7,
+    ];
+    fill(record, [3, place, 8], fields);
+}
+
+pub(crate) fn curbe_record<W: Word>(record: &mut [W; RECORD], command: &[W; 4], place: u32) {
+    let [_, _, w2, w3] = command.map(W::get);
+    fill(record, [4, place, 4], [w2 & 0x1_ffff, w3]);
+}
+
+pub(crate) fn descriptor_record<W: Word>(record: &mut [W; RECORD], command: &[W; 4], place: u32) {
+    let [_, _, w2, w3] = command.map(W::get);
+    fill(record, [5, place, 4], [(w2 & 0x1_ffff) / 32, w3]);
+}
+
+pub(crate) fn state_flush_record<W: Word>(record: &mut [W; RECORD], command: &[W; 2], place: u32) {
+    fill(record, [6, place, 2], [command[1].get()]);
+}
+
+pub(crate) fn gateway_record<W: Word>(record: &mut [W; RECORD], command: &[W; 2], place: u32) {
+    fill(record, [8, place, 2], [command[1].get()]);
+}
+
+pub(crate) fn object_record<W: Word>(
+    [header, w1, w2, w3, w4, w5]: [u32; OBJECT_FIXED],
+    place: u32,
+    vfe: u32,
+    number: u32,
+) -> [W; RECORD] {
     let inline = (header & 0xffff) - 4;
     [
         7,

@@ -6,6 +6,7 @@ use std::fmt::Write;
 
 pub mod batch;
 mod chips;
+pub mod chunks;
 mod commands;
 pub mod fuzz;
 pub mod in_play;

@@ -2,6 +2,8 @@
 
 use crate::batch::Answer;
 
+pub mod chunks;
+
 mod in_play;
 pub use in_play::deltas_in_play;
 

@@ -1,6 +1,7 @@
 //! Generators of cases, one module per subject.
 
 pub mod batch;
+pub mod chunks;
 pub mod fuzz;
 pub mod isolation;
 pub mod listing;

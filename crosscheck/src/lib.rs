@@ -4,6 +4,7 @@
 //! One module per check; `ffi` calls the library, `compare` sets both side by side.
 
 pub mod batch;
+pub mod chunks;
 pub mod compare;
 pub mod ffi;
 pub mod generate;

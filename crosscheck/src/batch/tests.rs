@@ -345,7 +345,7 @@ fn refusal_6_must_be_zero() {
 /// The command at this place with one bit more, in any dword after its header.
 fn every_bit(chip: u32, batch: &[u32], kind: usize, place: usize) {
     assert_eq!(answer_on(chip, batch), (0, 0));
-    let total = length_field(batch[place]) + 2;
+    let total = total(batch[place]);
     let masks = crate::masks::of(chip)[kind];
     assert!(masks[total..].iter().all(|&mask| mask == 0));
     for dword in place + 1..place + total {

@@ -12,6 +12,7 @@ type Subject = (&'static str, u64, fn(&Plan, &mut Report));
 
 const SUBJECTS: &[Subject] = &[
     ("batch", 175_000, compare::batch::run),
+    ("chunks", 150_000, compare::chunks::run),
     ("in_play", 0, compare::in_play::run),
     ("order", 175_000, compare::order::run),
     ("isolation", 40_000, compare::isolation::run),

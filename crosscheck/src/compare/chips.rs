@@ -12,10 +12,15 @@ pub struct Chips {
 impl Chips {
     /// `reachable` are the numbers that the entry can answer on either chip.
     pub fn new(entry: &str, reachable: impl IntoIterator<Item = u64> + Clone) -> Self {
+        Chips::rows(entry, reachable).and_no_chip(18, "")
+    }
+
+    /// The same without 18.
+    pub fn rows(entry: &str, reachable: impl IntoIterator<Item = u64> + Clone) -> Self {
         Chips {
             gen6: Tally::new(format!("{entry}, Gen6"), reachable.clone()),
             gen7: Tally::new(format!("{entry}, Gen7"), reachable),
-            others: Tally::new(format!("{entry}, no chip"), [18]),
+            others: Tally::new(format!("{entry}, no chip"), []),
         }
     }
 
@@ -23,6 +28,12 @@ impl Chips {
     pub fn and(mut self, number: u64, of: &'static str) -> Self {
         self.gen6 = self.gen6.and(number, of);
         self.gen7 = self.gen7.and(number, of);
+        self
+    }
+
+    /// One more row to be reached where no chip is named.
+    pub fn and_no_chip(mut self, number: u64, of: &'static str) -> Self {
+        self.others = self.others.and(number, of);
         self
     }
 

@@ -340,6 +340,11 @@ pub(super) fn flat(commands: &[Command]) -> Vec<u32> {
         .collect()
 }
 
+/// The same of any content.
+pub(super) fn mixed_of(random: &mut Random, chip: u32, dwords: usize) -> Vec<u32> {
+    flat(&Draft::valid(random, chip, Mix::All, dwords, u32::MAX).commands)
+}
+
 /// A valid batch of exactly so many dwords, of all the chip's kinds, that asks for at
 /// most `most_rows`.
 pub fn mixed(chip: u32, dwords: usize, most_rows: u32) -> Vec<u32> {

@@ -13,7 +13,7 @@ use crosscheck::generate;
 use crosscheck::masks::FIXED_DWORDS;
 use std::hint::black_box;
 
-const CAPACITY: u32 = 2048;
+pub const CAPACITY: u32 = 2048;
 
 /// About how many dwords a batch has.
 const SIZES: [usize; 3] = [1_000, 4_000, 16_000];
@@ -82,7 +82,7 @@ pub fn run(tables: &mut Tables) {
 }
 
 /// As many OBJECTs as come nearest to the size.
-fn objects(size: usize, inline: u32) -> Vec<u32> {
+pub fn objects(size: usize, inline: u32) -> Vec<u32> {
     let total = 6 + inline as usize;
     let start = [&VFE_STATE[..], &DESCRIPTOR_LOAD].concat();
     let count = (size - start.len() - 1 + total / 2) / total;
@@ -104,7 +104,7 @@ fn objects(size: usize, inline: u32) -> Vec<u32> {
 }
 
 /// A start, a command or two again and again, and END, in no more dwords than the size.
-fn repeat(size: usize, start: &[u32], again: &[u32]) -> Vec<u32> {
+pub fn repeat(size: usize, start: &[u32], again: &[u32]) -> Vec<u32> {
     let count = (size - start.len() - 1) / again.len();
     [start, &again.repeat(count), &[END]].concat()
 }

@@ -1,10 +1,11 @@
 //! Time of the library and of the second implementation on the same inputs, as
 //! Markdown tables.
 //!
-//! `bench [batch|order|growth|replay [passes]]`: all subjects, or one, at times for a
+//! `bench [batch|chunks|order|growth|replay [passes]]`: all subjects, or one, at times for a
 //! quick look with fewer passes.
 
 mod batch;
+mod chunks;
 mod growth;
 mod limit;
 mod order;
@@ -20,6 +21,7 @@ type Subject = (&'static str, fn(&mut Tables));
 
 const SUBJECTS: &[Subject] = &[
     ("batch", batch::run),
+    ("chunks", chunks::run),
     ("order", order::run),
     ("growth", growth::run),
     ("replay", replay::run),
@@ -51,6 +53,7 @@ fn main() -> ExitCode {
     println!(
         "Ratio: the second's time / the library's time; at 1.0 or more the library is as fast."
     );
+    println!("Times: of a batch in parts, the time / the same side's for the batch at once.");
     tables.print();
     ExitCode::SUCCESS
 }

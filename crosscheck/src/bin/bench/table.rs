@@ -6,7 +6,7 @@ use crate::timing::{turns, Side, Times, SIDES};
 #[derive(Clone)]
 pub struct Input {
     pub name: String,
-    /// What the entry takes: dwords or bytes.
+    /// What the entry takes: dwords or bytes; of a batch in parts, dwords of a chunk.
     pub entry: &'static str,
     /// Dwords of the batch, objects or events.
     pub size: usize,
@@ -19,6 +19,12 @@ pub struct Input {
 pub enum Shape {
     /// Nanoseconds a unit, and the ratio.
     PerUnit {
+        size: &'static str,
+        unit: &'static str,
+    },
+    /// The same of a batch in parts, and how many times what the row of the batch at once
+    /// takes; that one comes first.
+    Parts {
         size: &'static str,
         unit: &'static str,
     },
@@ -89,6 +95,24 @@ impl Tables {
                         .iter()
                         .for_each(|(input, times)| per_unit(input, times));
                 }
+                Shape::Parts { size, unit } => {
+                    let sides = ["library", "second", "limit"];
+                    let [library, second, limit] = sides.map(|side| format!("{side} ns/{unit}"));
+                    in_parts([
+                        "input", "chunk", size, &library, "times", &second, "times", &limit,
+                        "ratio",
+                    ]);
+                    in_parts([
+                        "---", "--:", "--:", "--:", "--:", "--:", "--:", "--:", "--:",
+                    ]);
+                    let mut at_once = &table.rows[0];
+                    for row in &table.rows {
+                        if (&row.0.name, row.0.size) != (&at_once.0.name, at_once.0.size) {
+                            at_once = row;
+                        }
+                        parts(row, &at_once.1);
+                    }
+                }
                 Shape::Growth { size } => {
                     grown(["run", size, "library us", "grows", "second us", "grows"]);
                     grown(["---", "--:", "--:", "--:", "--:", "--:"]);
@@ -123,6 +147,23 @@ fn per_unit(input: &Input, times: &Times) {
     ]);
 }
 
+fn parts((input, times): &(Input, Times), at_once: &Times) {
+    let per_unit = |side| nanoseconds(1e9 * of(times, side) / input.units as f64);
+    let times_at_once = |side| format!("{:.2}", of(times, side) / of(at_once, side));
+    let ratio = of(times, Side::Second) / of(times, Side::Library);
+    in_parts([
+        &input.name,
+        input.entry,
+        &input.size.to_string(),
+        &per_unit(Side::Library),
+        &times_at_once(Side::Library),
+        &per_unit(Side::Second),
+        &times_at_once(Side::Second),
+        &per_unit(Side::Limit),
+        &format!("{ratio:.2}"),
+    ]);
+}
+
 fn growth((input, times): &(Input, Times), before: Option<&(Input, Times)>) {
     let side = |side| {
         let grows = before.map(|(_, before)| of(times, side) / of(before, side));
@@ -152,6 +193,14 @@ fn line([name, entry, size, library, second, limit, ratio]: [&str; 7]) {
     println!(
         "| {name:<40} | {entry:<6} | {size:>6} | {library:>16} | {second:>15} | {limit:>14} | {ratio:>5} |"
     );
+}
+
+fn in_parts([name, cells @ ..]: [&str; 9]) {
+    print!("| {name:<40} |");
+    for (cell, width) in cells.iter().zip([7, 6, 16, 5, 15, 5, 14, 5]) {
+        print!(" {cell:>width$} |");
+    }
+    println!();
 }
 
 fn grown([name, size, library, library_grows, second, second_grows]: [&str; 6]) {
