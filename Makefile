@@ -2,7 +2,7 @@
 # call of the library can take, in stack and in time.
 gcc := gcc -std=c11 -O2 -Wall -Wextra -Werror -pedantic -Iinclude
 lib := target/staticlib/libmpl.a
-programs := $(addprefix target/bin/mpl_,shim replay limits calls)
+programs := $(addprefix target/bin/mpl_,shim feed replay limits calls)
 tools := need-rt need-gcc need-cargo
 # Folders too, as a file that went changes its folder alone.
 sources := crates.txt $(shell find crates)
@@ -13,7 +13,7 @@ sources := crates.txt $(shell find crates)
 run: target/bin/mpl_list
 	@target/bin/mpl_list <samples/worked.bin
 
-shim: target/bin/mpl_shim target/bin/mpl_replay
+shim: target/bin/mpl_shim target/bin/mpl_feed target/bin/mpl_replay
 
 test:
 	bash .ci/run
@@ -40,3 +40,5 @@ $(lib): $(sources) | need-rt need-gcc
 $(programs): target/bin/mpl_%: shim/%.c shim/files.c shim/files.h include/mpl.h $(lib)
 	@mkdir -p target/bin
 	$(gcc) $(filter %.c,$^) $(lib) -o $@
+
+target/bin/mpl_shim target/bin/mpl_feed: shim/batch.c shim/batch.h

@@ -2,7 +2,7 @@
  * What a call can take, for the author of a driver: how far below the caller's stack pointer it writes, and how long it lasts, each on the
  * input that took longest of those tried at the library's limits, for each chip where the caller names one. Stack counts what the caller
  * pushes for the call, the return address and all that is written below, the red zone too. It is seen by painting the stack before the
- * call, and so only up to the lowest byte written.
+ * call, and so only up to the lowest byte written. Where a batch comes in chunks, the time is that of all its calls.
  * Exit status: 0 every call keeps to the stack that mpl.h names; 1 one does not; 2 not measured or written, and standard error says why.
  */
 #define _XOPEN_SOURCE 700 /* clock_gettime, makecontext */
@@ -61,12 +61,34 @@ static void fill_single(void)
 }
 
 /* Type 1, all eight deltas in play: seven times (1, 1), then (-1, 1). */
-static void put_scoreboard(void)
+static void put_vfe(void)
 {
     static const uint32_t vfe[] = {0x70000006, 0, 0x00070100, 0, 0x00020004, 0xc00000ff, 0x11111111, 0x1f111111};
-    static const uint32_t descriptor_load[] = {0x70020002, 0, 32, 0x1000};
     put(vfe, sizeof vfe / sizeof vfe[0]);
+}
+
+static void put_scoreboard(void)
+{
+    static const uint32_t descriptor_load[] = {0x70020002, 0, 32, 0x1000};
+    put_vfe();
     put(descriptor_load, sizeof descriptor_load / sizeof descriptor_load[0]);
+}
+
+/*
+ * State flushes and MI_FLUSHes in turn, of two dwords and of one, so that chunks cut some of them; and a VFE that chunks of 64 cut, as its
+ * judge goes deepest.
+ */
+static void fill_flushes(void)
+{
+    static const uint32_t flushes[] = {0x70040000, 0, 0x02000000};
+    enum { LEN = sizeof flushes / sizeof flushes[0], VFE_AT = 20 * LEN };
+    dwords = 0;
+    while (dwords + LEN < MOST) {
+        if (dwords == VFE_AT)
+            put_vfe();
+        put(flushes, LEN);
+    }
+    put_each_to_end(0);
 }
 
 /*
@@ -140,6 +162,28 @@ static uint64_t ask_batch_dwords(void)
     return mpl_check_batch_dwords(chip, batch, dwords, CAPACITY, records, sizeof records / sizeof records[0]).number;
 }
 
+/* The whole batch in chunks of so many dwords, from a fresh carried state. */
+static uint64_t feed(size_t size)
+{
+    struct mpl_fed fed = {.more = 1};
+    for (size_t from = 0; fed.more != 0; from += size) {
+        size_t left = dwords - from, len = size < left ? size : left;
+        MARK();
+        fed = mpl_feed(chip, fed.carried, batch + from, len, len == left, CAPACITY, records, sizeof records / sizeof records[0]);
+    }
+    return fed.number;
+}
+
+static uint64_t ask_feed(void)
+{
+    return feed(MOST);
+}
+
+static uint64_t ask_feed_64(void)
+{
+    return feed(64);
+}
+
 static uint64_t ask_order(void)
 {
     MARK();
@@ -183,6 +227,10 @@ static const struct subject {
     {"mpl_check_batch", "MI_FLUSHes, no-ops in turn", MPL_GEN7, fill_single, ask_batch, 512},
     {"mpl_check_batch_dwords", "MI_FLUSHes, no-ops in turn", MPL_GEN6, fill_single, ask_batch_dwords, 512},
     {"mpl_check_batch_dwords", "MI_FLUSHes, no-ops in turn", MPL_GEN7, fill_single, ask_batch_dwords, 512},
+    {"mpl_feed", "both flushes, one chunk", MPL_GEN6, fill_flushes, ask_feed, 1280},
+    {"mpl_feed", "both flushes, one chunk", MPL_GEN7, fill_flushes, ask_feed, 1280},
+    {"mpl_feed", "both flushes, chunks of 64", MPL_GEN6, fill_flushes, ask_feed_64, 1280},
+    {"mpl_feed", "both flushes, chunks of 64", MPL_GEN7, fill_flushes, ask_feed_64, 1280},
     {"mpl_check_order", "2,728 OBJECTs, none finished", MPL_GEN6, fill_objects, ask_order, 1024},
     {"mpl_check_order", "2,728 OBJECTs, none finished", MPL_GEN7, fill_objects, ask_order, 1024},
     {"mpl_check_order_dwords", "2,728 OBJECTs, none finished", MPL_GEN6, fill_objects, ask_order_dwords, 1024},

@@ -8,69 +8,18 @@
 #include <stdlib.h>
 #include <string.h>
 
+#include "batch.h"
 #include "files.h"
 #include "mpl.h"
-
-/* More than any batch that is accepted, so that it is the library that refuses a long one. */
-enum { FILE_BYTES_MOST = 1 << 20 };
 
 const char program[] = "mpl_shim";
 const char usage[] = "usage: mpl_shim [-6] BATCH RUN [CAPACITY]\n"
                      "-6: the chip is Gen6, else it is Gen7\n"
                      "BATCH, RUN: files of little-endian dwords, at most 1 MiB; CAPACITY: of the URB, in 256-bit rows (2048)\n";
 const char statuses[] = "exit status: 0 both checks accept; 1 one refuses; 2 not asked, or answers not written: standard error says why\n";
-static const uint32_t usual_capacity = 2048;
-
-/* What each number but 0 means, and what its place is. */
-struct meaning {
-    uint64_t number;
-    const char *words, *place;
-};
-
-#define COMMAND "the command's first dword"
-#define EVENT "the event's position in the run"
-
-static const struct meaning meanings[] = {
-    {MPL_TOO_LONG, "over 16,384 dwords", "always 0"},
-    {MPL_NO_END, "batch used up before END", "its dwords"},
-    {MPL_UNKNOWN_COMMAND, "header's type and opcodes not in the table", COMMAND},
-    {MPL_LENGTH_FIELD, "length field not allowed", COMMAND},
-    {MPL_RUNS_PAST, "command runs past the batch", COMMAND},
-    {MPL_MUST_BE_ZERO, "a must-be-zero bit is set", "the first such dword"},
-    {MPL_LOAD_FIELDS, "load length or address not a multiple of 32, or descriptor length outside 32 to 2,048", "the first such dword"},
-    {MPL_ORDER, "command out of order, or descriptor index not below the count last loaded", COMMAND},
-    {MPL_TOO_LARGE, "a VFE exceeds the capacity, or a CURBE load the CURBE size in force", COMMAND},
-    {MPL_RECORD_ROOM, "fewer than 16 words of record buffer per command", "dwords read"},
-    {MPL_PART_OF_A_DWORD, "batch not a multiple of 4 bytes", "its whole dwords"},
-    {MPL_UNKNOWN_CHIP, "chip neither 6 nor 7", "always 0"},
-    {MPL_FEW_STATES, "fewer state bytes than objects", "always 0"},
-    {MPL_NO_SUCH_OBJECT, "no such object", EVENT},
-    {MPL_NOT_WAITING, "start of an object that is not waiting", EVENT},
-    {MPL_NOT_RUNNING, "finish of an object that is not running", EVENT},
-    {MPL_STALLS, "start of an object that uses a scoreboard of type 0, and an earlier one is in state 0", EVENT},
-    {MPL_WAITS, "start of an object that waits", EVENT},
-};
 
 /* 17 is the one number that two files can have. */
 static const struct meaning part_of_run = {MPL_PART_OF_A_DWORD, "run not a multiple of 4 bytes", "its whole dwords"};
-
-static const struct meaning unknown = {0, "a number that this shim does not know", "unknown"};
-
-static const struct meaning *meaning_of(uint64_t number)
-{
-    for (size_t i = 0; i < sizeof meanings / sizeof meanings[0]; i++)
-        if (meanings[i].number == number)
-            return &meanings[i];
-    return &unknown;
-}
-
-/* The byte past the most tells a file that is too large. */
-static bool read_words(const char *path, struct buffer *file)
-{
-    if (!read_file(path, FILE_BYTES_MOST + 1, file))
-        return false;
-    return file->len <= FILE_BYTES_MOST || complain(path, "over 1 MiB");
-}
 
 struct lent {
     struct buffer batch, run, records, states;
@@ -93,21 +42,6 @@ static void free_lent(struct lent *lent)
     free(lent->run.bytes);
     free(lent->records.bytes);
     free(lent->states.bytes);
-}
-
-static void print_refused(const char *check, uint64_t number, uint64_t place, const struct meaning *meaning)
-{
-    printf("%s: number %" PRIu64 ", place %" PRIu64 ": %s; place: %s", check, number, place, meaning->words, meaning->place);
-}
-
-static void print_batch(const struct mpl_batch *batch)
-{
-    if (batch->number == MPL_ACCEPTED)
-        printf("batch: number 0, place %" PRIu64 ": accepted, %" PRIu64 " commands, %" PRIu64 " dwords", batch->place,
-               batch->commands, batch->dwords);
-    else
-        print_refused("batch", batch->number, batch->place, meaning_of(batch->number));
-    putchar('\n');
 }
 
 /* The order check asks after a part of a dword in the batch, then in the run: where the batch has none, 17 is the run's. */
@@ -180,25 +114,10 @@ static int ask(uint32_t chip, const struct lent *lent, uint32_t capacity)
     return printed(batch.number == MPL_ACCEPTED && order.number == MPL_ACCEPTED ? DONE : REFUSED);
 }
 
-/* strtoull would take a sign or a blank; its answer on overflow is above every capacity. */
-static bool read_capacity(const char *text, uint32_t *capacity)
-{
-    char *end;
-    unsigned long long rows = strtoull(text, &end, 10);
-    *capacity = (uint32_t)rows;
-    return text[0] >= '0' && text[0] <= '9' && *end == '\0' && rows <= UINT32_MAX;
-}
-
 struct asked {
     uint32_t chip, capacity;
     const char *batch, *run;
 };
-
-/* A dash alone is a file's name. */
-static bool is_option(const char *argument)
-{
-    return argument[0] == '-' && argument[1] != '\0';
-}
 
 /* -6 is the only option. A file whose name begins with a dash is given as ./-name. */
 static bool read_arguments(int argc, char **argv, struct asked *asked)
@@ -213,14 +132,14 @@ static bool read_arguments(int argc, char **argv, struct asked *asked)
     asked->chip = option ? MPL_GEN6 : MPL_GEN7;
     asked->batch = argv[first];
     asked->run = argv[first + 1];
-    return given == 2 || read_capacity(argv[first + 2], &asked->capacity);
+    return given == 2 || read_number(argv[first + 2], UINT32_MAX, &asked->capacity);
 }
 
 int main(int argc, char **argv)
 {
     if (asks_for_help(argc, argv))
         return give_help();
-    struct asked asked = {.capacity = usual_capacity};
+    struct asked asked = {.capacity = USUAL_CAPACITY};
     if (!read_arguments(argc, argv, &asked)) {
         fputs(usage, stderr);
         return FAILED;
