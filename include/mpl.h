@@ -1,6 +1,6 @@
 /*
  * The checker of media command batches, of runs and of gateway recordings, for C on x86-64. Link libmpl.a (`rt staticlib mpl`); it needs
- * memcpy and memset. shim/shim.c and shim/replay.c are examples. Both checks are for Gen6 and for Gen7: the caller names the chip.
+ * memcpy and memset. shim/shim.c, shim/feed.c and shim/replay.c are examples. Both checks are for Gen6 and for Gen7: the caller names the chip.
  *
  * What a caller owes: each pointer is valid for its length, in elements; it may be null only where that length is 0; pointers to uint32_t
  * are aligned, those to bytes need not be; no two buffers of a call overlap; during the call nobody else writes them, or reads those that
@@ -153,28 +153,31 @@ struct mpl_batch mpl_check_batch(uint32_t chip, const uint8_t *batch, size_t bat
 /*
  * A batch that comes in parts: the batch check over dwords, fed chunk by chunk. The caller starts from a carried state of zeros
  * (struct mpl_carried carried = {0};), gives each call the `carried` that the one before returned, names one chip and one capacity and
- * lends one record buffer throughout, and marks the last chunk by a `last` that is not 0. A chunk may be cut at any dword, and may be
- * empty. Calls before the last say `more`, whatever they met. The last answers as mpl_check_batch_dwords does on all the chunks joined:
- * the same number, place, commands and dwords; 1 goes by the sum of all chunks.
- * Records are written as commands pass, as many whole ones as fit in `records`: after each call those of the commands that are complete so
- * far, up to the first that is faulty. After acceptance they are those of mpl_check_batch_dwords; after a refusal they are those of
- * the commands passed that end within the first 16,384 dwords (after 18 none). Every other word of `records` is as it was.
+ * lends one record buffer throughout, and marks the last chunk by a `last` that is not 0. The batch may be cut at any dword; a chunk may be
+ * empty. Calls before the last say `more`, whatever they met. The last answers as mpl_check_batch_dwords does on all the chunks joined: the
+ * same number, place, commands and dwords; 1 goes by the dwords of all chunks, those after END and after a fault included.
+ * Unlike mpl_check_batch_dwords, records are written as commands pass, as many whole ones as fit in `records`: after each call those of the
+ * commands complete so far, before the first faulty one, up to END, and within the first 16,384 dwords. So after acceptance they are those
+ * of mpl_check_batch_dwords, and after a refusal those of the commands passed that end within the first 16,384 dwords (after 18 none).
+ * Every other word of `records` is as it was.
  * One more number, asked before 18: after any answer, 0 or a refusal, every further call, last or not, empty or not, gives 19 at 0, hands
- * the carried state back as it is, and leaves `records` as it was. "more" is no answer.
+ * the carried state back as it is, and leaves `records` as it was. `more` is no answer. shim/feed.c is an example.
  */
 enum {
-    MPL_ANSWERED = 19           /* a chunk offered after an answer was given; place 0 */
+    MPL_AFTER_ANSWER = 19       /* a chunk offered after an answer was given; place 0 */
 };
 
 enum { MPL_STOP_END = 255 };    /* stop, below: END was met */
 
 /*
- * What is carried from call to call: numbers alone, for the library's own use; all zero before the first chunk.
- * A caller's own mistakes: each call goes by the chip, the capacity and the record buffer that it is given; once a call has named no
- * chip, the last one answers 18, whatever it names. A carried state that no call returned is answered with 19, and nothing changes,
- * where `answered` is not 0, `dwords` is over 16,385, or `stop` is none of 0, 3 to 9, 18 and 255; or where `stop` is 0 and `place` plus
- * `got` is over `dwords` or over 16,384, or `commands` or `objects` over `place`. Any other is gone on from as it stands; whatever it
- * holds, the call ends, stays inside what it was lent, and answers one of the numbers above.
+ * What is carried from call to call: numbers alone, all zero before the first chunk. It is for the library: whatever `stop` says, the
+ * answer is the last call's, and may still be 1 or 18.
+ * A caller's own mistakes: each call goes by the chip, the capacity and the record buffer that it is given. A call that names no chip reads
+ * and counts nothing; the last one then answers 18, whatever it names, and the records of earlier calls stay. A carried state that no
+ * call returned is answered with 19, and nothing changes, where `answered` is not 0, `dwords` is over 16,385, or `stop` is none of 0, 3 to
+ * 9, 18 and 255; or where `stop` is 0 and `place` plus `got` is over `dwords` or over 16,384, or `commands` or `objects` over `place`. Any
+ * other is gone on from as it stands; whatever it holds, the call ends, stays inside what it was lent, and says `more` or answers one of
+ * 0 to 10 and 18.
  */
 struct mpl_carried {
     uint32_t answered;      /* 1: an answer was given */
@@ -184,11 +187,13 @@ struct mpl_carried {
                                else of the refusal */
     uint32_t got;           /* how many dwords have come of the command that is not whole yet */
     uint32_t own[8];        /* of the command that is not whole yet: the dwords that have come, without inline data, then zeros */
+    /* of the commands passed: whether there is a VFE, the number of the last one's record and its dwords 1 to 4, the count last loaded,
+       what stands since the last flushes, how many commands there are, how many OBJECTs */
     uint32_t earlier_vfe, vfe_in_force, vfe_dword_1, vfe_dword_2, vfe_dword_3, vfe_dword_4;
     uint32_t count_loaded, standing, commands, objects;
 };
 
-/* more 1: the chunk was taken, and the numbers after it are 0. more 0: number, place, commands and dwords as in mpl_batch. */
+/* more 1: the call is not the last, and the numbers after it are 0. more 0: number, place, commands and dwords as in mpl_batch. */
 struct mpl_fed {
     struct mpl_carried carried;
     uint64_t more, number, place, commands, dwords;

@@ -49,7 +49,7 @@ static const struct meaning meanings[] = {
     {MPL_RECORD_ROOM, "fewer than 16 words of record buffer per command", "dwords read"},
     {MPL_PART_OF_A_DWORD, "batch not a multiple of 4 bytes", "its whole dwords"},
     {MPL_UNKNOWN_CHIP, "chip neither 6 nor 7", "always 0"},
-    {MPL_ANSWERED, "a chunk offered after an answer was given", "always 0"},
+    {MPL_AFTER_ANSWER, "a chunk offered after an answer was given", "always 0"},
     {MPL_FEW_STATES, "fewer state bytes than objects", "always 0"},
     {MPL_NO_SUCH_OBJECT, "no such object", EVENT},
     {MPL_NOT_WAITING, "start of an object that is not waiting", EVENT},

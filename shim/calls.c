@@ -304,7 +304,7 @@ static bool is_fed_due(bool due, const char *what, const struct mpl_fed *fed)
 
 static bool is_answered(const struct mpl_fed *fed, const struct mpl_carried *carried)
 {
-    return gives(fed, (struct answer){.number = MPL_ANSWERED}) && memcmp(&fed->carried, carried, sizeof *carried) == 0;
+    return gives(fed, (struct answer){.number = MPL_AFTER_ANSWER}) && memcmp(&fed->carried, carried, sizeof *carried) == 0;
 }
 
 /* After an answer: 19 to each further call, whatever it names, hands over and lends; carried state and records stay as they are. */
@@ -447,7 +447,7 @@ static bool survives_junk(size_t *seen)
         answered = last != 0 ? is_answer(&fed) : says_more(&fed) && is_usable(&fed.carried);
         memcpy(due.words, records.words, 4 * words);
     }
-    if (fed.more == 0 && fed.number <= MPL_ANSWERED)
+    if (fed.more == 0 && fed.number <= MPL_AFTER_ANSWER)
         seen[fed.number]++;
     return is_fed_due(answered && are_same(&records, &due), "junk", &fed);
 }
@@ -456,11 +456,11 @@ static bool survives_junk(size_t *seen)
 static bool survives_all_junk(void)
 {
     enum { STATES_OF_JUNK = 20000, NUMBERS = MPL_RECORD_ROOM + 3 };
-    size_t seen[MPL_ANSWERED + 1] = {0}, numbers = 0;
+    size_t seen[MPL_AFTER_ANSWER + 1] = {0}, numbers = 0;
     bool all = true;
     for (size_t i = 0; all && i < STATES_OF_JUNK; i++)
         all = survives_junk(seen);
-    for (size_t number = 0; number <= MPL_ANSWERED; number++)
+    for (size_t number = 0; number <= MPL_AFTER_ANSWER; number++)
         numbers += seen[number] > 0;
     if (all && numbers != NUMBERS)
         printf("mpl_feed, junk: %zu numbers of %d\n", numbers, NUMBERS);
