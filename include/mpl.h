@@ -1,6 +1,7 @@
 /*
  * The checker of media command batches, of runs and of gateway recordings, for C on x86-64. Link libmpl.a (`rt staticlib mpl`); it needs
- * memcpy and memset. shim/shim.c, shim/feed.c and shim/replay.c are examples. Both checks are for Gen6 and for Gen7: the caller names the chip.
+ * memcpy and memset. shim/shim.c, shim/feed.c and shim/replay.c are examples. The checks are for Gen6 and for Gen7: the caller names the
+ * chip.
  *
  * What a caller owes: each pointer is valid for its length, in elements; it may be null only where that length is 0; pointers to uint32_t
  * are aligned, those to bytes need not be; no two buffers of a call overlap; during the call nobody else writes them, or reads those that
@@ -16,11 +17,11 @@
  * driver that cannot see to all of it asks a process.
  *
  * What a call takes (`make limits` measures it; docs/BENCHMARKS.md has the figures and how they were taken, below At the limits):
- * Stack, arguments, return address and red zone included: a batch check at most 512 bytes, an order check or a replay 1,024,
- * mpl_deltas_in_play 64. The caller's memcpy and memset come on top. No frame depends on the input.
- * Time, for 16,384 dwords or 65,535 events: a batch check some 0.1 milliseconds, a replay some 1, an order check some 10. That one grows
- * with the OBJECTs times the commands where two OBJECTs or more stay unfinished, and not with the run's length: at most two events an
- * object pass, and the one after them ends the run.
+ * Stack, arguments, return address and red zone included: a batch check at most 512 bytes, an order check or a replay 1,024, mpl_feed
+ * 1,280, mpl_deltas_in_play 64. The caller's memcpy and memset come on top. No frame depends on the input.
+ * Time, for 16,384 dwords or 65,535 events: a batch check some 0.1 milliseconds, the same in chunks of 64 some 0.2, a replay some 1, an
+ * order check some 10. That one grows with the OBJECTs times the commands where two OBJECTs or more stay unfinished, and not with the run's
+ * length: at most two events an object pass, and the one after them ends the run.
  */
 #ifndef MPL_H
 #define MPL_H

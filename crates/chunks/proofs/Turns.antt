@@ -25,14 +25,14 @@ use Rattle.reading.specs.Turns.{Header, standsAt}
 use Rattle.reading.proofs.Scans.{grown}
 use Rattle.reading.proofs.Steps.{stands-fits, stands-same}
 use Rattle.progress.specs.declared.Progress.{Progress}
-use Rattle.progress.specs.Steps.{kindIn, totalIn, alone, Event, fault, unfinished, passes, judged, settled, gathered, come, beginning, between, afterEvent, fitted, writtenBy, Stage, stage, byEvent, stageAfter}
+use Rattle.progress.specs.Steps.{kindIn, totalIn, alone, Change, fault, unfinished, passes, judged, settled, gathered, come, beginning, between, afterChange, fitted, writtenBy, Stage, stage, byChange, stageAfter}
 use Rattle.progress.specs.Parts.{gatheredIn, dwordsLeft, Counts}
 use Rattle.progress.specs.Sound.{Sound}
 use Rattle.progress.proofs.Gathers.{gatheredAll, gathered-in, total-all}
 use Rattle.progress.proofs.Runs.{Run, ran, run, runFrom, run-step, run-stopped, held, run-held, run-whole, run-refused, gathers, run-short, run-command, settled-is}
 use Rattle.progress.proofs.Stages.{stage-stays, stage-event, stage-same}
 use Rattle.progress.proofs.Fold.{number-on}
-use Rattle.chunks.specs.Turns.{Ready, leftBy, Kept, Went, Begins}
+use Rattle.chunks.specs.Turns.{Ready, leavesFrom, Kept, Went, Begins}
 use Rattle.progress.proofs.Leaves.{skip-small, pass-on}
 
 -- how many dwords have been read up to dword i of the chunk, at most
@@ -40,8 +40,8 @@ abbrev readTo : List ℕ → ℕ → ℕ
 readTo l i = 16384 - length l + i
 
 -- an event that is all of the dwords from i to j
-pub event-went : (l : List ℕ) (c : Progress) (i : ℕ) (r : List ℕ) (j : ℕ) (e : Event) (c′ : Progress) (r′ : List ℕ)
-    → run c (drop i l) ≡ runFrom (c .st) (c .place) e (drop j l) → stage c′ r′ ≡ byEvent (c .st) (c .place) e r → i < j → Ready l j c′ → Went l c i r c′ j r′
+pub event-went : (l : List ℕ) (c : Progress) (i : ℕ) (r : List ℕ) (j : ℕ) (e : Change) (c′ : Progress) (r′ : List ℕ)
+    → run c (drop i l) ≡ runFrom (c .st) (c .place) e (drop j l) → stage c′ r′ ≡ byChange (c .st) (c .place) e r → i < j → Ready l j c′ → Went l c i r c′ j r′
 event-went l c i r j e c′ r′ er es p rd =
     record {
       on = p;
@@ -50,8 +50,8 @@ event-went l c i r j e c′ r′ er es p rd =
 
 -- what an event leaves is sound
 module _ (st : State) (at n : ℕ) (h : List ℕ) (qc : st .commands ≤ at) (qo : st .objects ≤ at) (q : at + totalIn st h ≤ n) where
-  sound-passes : Sound n (afterEvent st at (passes h))
-  unfolding afterEvent
+  sound-passes : Sound n (afterChange st at (passes h))
+  unfolding afterChange
   sound-passes =
       let z = total-pos (kindIn st h) (getD h 0 0) in
       let a = after-commands (kindIn st h) h st in
@@ -59,17 +59,17 @@ module _ (st : State) (at n : ℕ) (h : List ℕ) (qc : st .commands ≤ at) (qo
       let g = grown (eqb (kindIn st h) 7) (st .objects) in
       record { come = λ e. omega arith; commands = λ e. omega arith; objects = λ e. omega arith }
 
-  sound-judged : (v : Verdict) → T (inRange v) → Sound n (afterEvent st at (judged v h))
-  unfolding afterEvent
+  sound-judged : (v : Verdict) → T (inRange v) → Sound n (afterChange st at (judged v h))
+  unfolding afterChange
   sound-judged (Fault m s) f =
       let z = number-on m f in record { come = λ e. absurd (z e); commands = λ e. absurd (z e); objects = λ e. absurd (z e) }
   sound-judged Passed f = sound-passes
 
-  pub sound-settled : Sound n (afterEvent st at (settled st h))
+  pub sound-settled : Sound n (afterChange st at (settled st h))
   sound-settled = sound-judged (judgeOf (kindIn st h) (totalIn st h) h st) (fault-number (kindIn st h) (totalIn st h) h st)
 
-pub sound-fault : (st : State) (at n m s : ℕ) → T (leb 3 m && leb m 9) → Sound n (afterEvent st at (fault m s))
-unfolding afterEvent
+pub sound-fault : (st : State) (at n m s : ℕ) → T (leb 3 m && leb m 9) → Sound n (afterChange st at (fault m s))
+unfolding afterChange
 sound-fault st at n m s f = let z = number-on m f in record { come = λ e. absurd (z e); commands = λ e. absurd (z e); objects = λ e. absurd (z e) }
 
 pub ready-at : (l : List ℕ) (j : ℕ) (c c′ : Progress) → c ≡ c′ → j ≤ length l → length l ≤ 16384 → Sound (readTo l j) c′ → Ready l j c
@@ -121,8 +121,8 @@ module _ (l : List ℕ) (c : Progress) (i : ℕ) (r : List ℕ) (rd : Ready l i 
 
   -- all the dwords of the chunk belong to it, and do not make it whole
   pub more-went : (m : ℕ) (h : List ℕ) (c′ : Progress) → m ≡ length l - i → m < left → h ≡ gatheredIn most (c .own) (c .got) (take m (drop i l))
-      → c′ ≡ afterEvent st (c .place) (unfinished h (c .got + m)) → Went l c i r c′ (i + m) r
-  unfolding afterEvent writtenBy
+      → c′ ≡ afterChange st (c .place) (unfinished h (c .got + m)) → Went l c i r c′ (i + m) r
+  unfolding afterChange writtenBy
   more-went m h c′ e w eh ec =
       let z = length-drop i l in
       let y : length (drop i l) ≡ m = omega arith in
@@ -143,12 +143,12 @@ module _ (l : List ℕ) (c : Progress) (i : ℕ) (r : List ℕ) (rd : Ready l i 
       ∙ ap (run (held st (c .place) h (c .got + m))) (sym none))
       (ap (λ (x : Progress). stage x r) ec)
       (omega arith)
-      (ready-at l (i + m) c′ (afterEvent st (c .place) (unfinished h (c .got + m))) ec (omega arith) f
+      (ready-at l (i + m) c′ (afterChange st (c .place) (unfinished h (c .got + m))) ec (omega arith) f
       (record { come = λ e. omega arith; commands = λ e. rd .sound .commands o; objects = λ e. rd .sound .objects o }))
 
   -- they make it whole
   pub last-went : (h : List ℕ) (c′ : Progress) (r′ : List ℕ) → left ≤ length l - i → h ≡ gatheredIn most (c .own) (c .got) (take left (drop i l))
-      → stage c′ r′ ≡ byEvent st (c .place) (settled st h) r → Went l c i r c′ (i + left) r′
+      → stage c′ r′ ≡ byChange st (c .place) (settled st h) r → Went l c i r c′ (i + left) r′
   last-went h c′ r′ w eh es =
       let z = length-drop i l in
       let y : length (take left (drop i l)) ≡ left = length-take-le left (drop i l) (omega arith) in
@@ -167,7 +167,7 @@ module _ (l : List ℕ) (c : Progress) (i : ℕ) (r : List ℕ) (rd : Ready l i 
       ∙ ap₂ (λ (x y : List ℕ). runFrom st (c .place) (settled st x) y) g (drop-drop left i l))
       es
       (omega arith)
-      (ready-at l (i + left) c′ (afterEvent st (c .place) (settled st h)) (ap (λ (x : Stage). x .progress) es) (omega arith) f
+      (ready-at l (i + left) c′ (afterChange st (c .place) (settled st h)) (ap (λ (x : Stage). x .progress) es) (omega arith) f
       (sound-settled st (c .place) (readTo l (i + left)) h (rd .sound .commands o) (rd .sound .objects o) (omega arith)))
     where
       left-one : 1 ≤ left
@@ -216,9 +216,9 @@ module _ (l : List ℕ) (st : State) (at i : ℕ) (r : List ℕ) (rd : Ready l i
       total-as t e = e ∙ ap (λ (x : ℕ). totalOf x d) ek
 
       -- rows 3 and 4 refuse it
-      pub fault-went : (v : Verdict) (t m s : ℕ) (c′ : Progress) → t ≡ totalOf k d → v ≡ headerVerdict k d t → v ≡ Fault m s → c′ ≡ afterEvent st at (fault m s)
+      pub fault-went : (v : Verdict) (t m s : ℕ) (c′ : Progress) → t ≡ totalOf k d → v ≡ headerVerdict k d t → v ≡ Fault m s → c′ ≡ afterChange st at (fault m s)
           → Went l (between st at) i r c′ (i + 1) r
-      unfolding afterEvent writtenBy
+      unfolding afterChange writtenBy
       fault-went v t m s c′ et ev e ec =
           let hv : headerVerdict kd d td ≡ Fault m s = sym (ev ∙ ap₂ (λ (x y : ℕ). headerVerdict x d y) ek (total-as t et)) ∙ e in
           let f = fault-range hv in
@@ -228,13 +228,13 @@ module _ (l : List ℕ) (st : State) (at i : ℕ) (r : List ℕ) (rd : Ready l i
           ∙ sym (stopped-run f))
           (ap (λ (x : Progress). stage x r) ec)
           (omega arith)
-          (ready-at l (i + 1) c′ (afterEvent st at (fault m s)) ec (omega arith) w (sound-fault st at (readTo l (i + 1)) m s f))
+          (ready-at l (i + 1) c′ (afterChange st at (fault m s)) ec (omega arith) w (sound-fault st at (readTo l (i + 1)) m s f))
         where
           fault-range : headerVerdict kd d td ≡ Fault m s → T (leb 3 m && leb m 9)
           fault-range hv = subst (λ (x : Verdict). T (inRange x)) (judge-header kd td (d ∷ []) st m s hv) (fault-number kd td (d ∷ []) st)
 
-          stopped-run : T (leb 3 m && leb m 9) → runFrom st at (fault m s) ds ≡ ran [] (afterEvent st at (fault m s))
-          stopped-run f = run-stopped (afterEvent st at (fault m s)) (number-on m f) ds
+          stopped-run : T (leb 3 m && leb m 9) → runFrom st at (fault m s) ds ≡ ran [] (afterChange st at (fault m s))
+          stopped-run f = run-stopped (afterChange st at (fault m s)) (number-on m f) ds
 
       module _ (hp : headerVerdict k d (totalOf k d) ≡ Passed) where
         passes-as : headerVerdict kd d td ≡ Passed
@@ -242,9 +242,9 @@ module _ (l : List ℕ) (st : State) (at i : ℕ) (r : List ℕ) (rd : Ready l i
 
         -- the chunk does not have all of it
         pub short-went : (t m most : ℕ) (h : List ℕ) (c′ : Progress) → t ≡ totalOf k d → m ≡ length l - i → m < t → most ≡ ownDwords k
-            → h ≡ gatheredIn most (d ∷ 0 ∷ 0 ∷ 0 ∷ 0 ∷ 0 ∷ 0 ∷ 0 ∷ []) 1 (take (m - 1) (drop (i + 1) l)) → c′ ≡ afterEvent st at (unfinished h m)
+            → h ≡ gatheredIn most (d ∷ 0 ∷ 0 ∷ 0 ∷ 0 ∷ 0 ∷ 0 ∷ 0 ∷ []) 1 (take (m - 1) (drop (i + 1) l)) → c′ ≡ afterChange st at (unfinished h m)
             → Went l (between st at) i r c′ (i + m) r
-        unfolding afterEvent writtenBy run
+        unfolding afterChange writtenBy run
         short-went t m most h c′ et en w em eh ec =
             let z = count-ds in
             let e : suc (length ds) ≡ m = omega arith in
@@ -264,7 +264,7 @@ module _ (l : List ℕ) (st : State) (at i : ℕ) (r : List ℕ) (rd : Ready l i
             ∙ ap (run (held st at h m)) (sym none))
             (ap (λ (x : Progress). stage x r) ec)
             (omega arith)
-            (ready-at l (i + m) c′ (afterEvent st at (unfinished h m)) ec (omega arith) f
+            (ready-at l (i + m) c′ (afterChange st at (unfinished h m)) ec (omega arith) f
             (record { come = λ e. omega arith; commands = λ e. rd .sound .commands refl; objects = λ e. rd .sound .objects refl }))
 
         module _ (t : ℕ) (et : t ≡ totalOf k d) (w : t ≤ length l - i) where
@@ -283,7 +283,7 @@ module _ (l : List ℕ) (st : State) (at i : ℕ) (r : List ℕ) (rd : Ready l i
                 let y = total-as t et in
                 let left : drop td (d ∷ ds) ≡ drop (i + t) l = ap (drop td) (sym dropped) ∙ drop-drop td i l ∙ ap (λ (x : ℕ). drop (i + x) l) (sym y) in
                 ap (run (between st at)) dropped ∙ run-command st at d passes-as ds (omega arith)
-                ∙ ap₂ (λ (x : Event) (y : List ℕ). runFrom st at x y) (sym (settled-is st at d passes-as ds) ∙ ap (settled st) (sym head-is)) left
+                ∙ ap₂ (λ (x : Change) (y : List ℕ). runFrom st at x y) (sym (settled-is st at d passes-as ds) ∙ ap (settled st) (sym head-is)) left
 
             first-is : getD h 0 0 ≡ d
             unfolding headOf
@@ -296,14 +296,14 @@ module _ (l : List ℕ) (st : State) (at i : ℕ) (r : List ℕ) (rd : Ready l i
             kind-head = ek ∙ ap (kindOf (st .chip)) (sym first-is)
 
             -- the chunk has all of it
-            pub whole-went : (c′ : Progress) (r′ : List ℕ) → stage c′ r′ ≡ byEvent st at (settled st h) r → Went l (between st at) i r c′ (i + t) r′
+            pub whole-went : (c′ : Progress) (r′ : List ℕ) → stage c′ r′ ≡ byChange st at (settled st h) r → Went l (between st at) i r c′ (i + t) r′
             whole-went c′ r′ es =
                 let z = total-pos k d in
                 let y = total-head in
                 let f = rd .few in
                 let a = rd .sound .come refl in
                 event-went l (between st at) i r (i + t) (settled st h) c′ r′ whole-run es (omega arith)
-                (ready-at l (i + t) c′ (afterEvent st at (settled st h)) (ap (λ (x : Stage). x .progress) es) (omega arith) f
+                (ready-at l (i + t) c′ (afterChange st at (settled st h)) (ap (λ (x : Stage). x .progress) es) (omega arith) f
                 (sound-settled st at (readTo l (i + t)) h (rd .sound .commands refl) (rd .sound .objects refl) (omega arith)))
 
             -- and it passes, and is not END
@@ -312,7 +312,7 @@ module _ (l : List ℕ) (st : State) (at i : ℕ) (r : List ℕ) (rd : Ready l i
             quick-went next r′ n e en er =
                 whole-went (between next (at + t)) r′
                 (pass-on st at h k t kind-head (sym total-head) next r r′ (between next (at + t)) en er refl n
-                ∙ ap (λ (x : Event). byEvent st at x r) (sym passes-is))
+                ∙ ap (λ (x : Change). byChange st at x r) (sym passes-is))
               where
                 verdict : judgeOf (kindIn st h) (totalIn st h) h st ≡ Passed
                 verdict =
@@ -434,7 +434,7 @@ module _ (l : List ℕ) (c : Progress) (i : ℕ) (r : List ℕ) (rd : Ready l i 
       (eq-eqb (c .got) 0 g)
       ∙ sym (ap (run b) e ∙ run-step b d (drop (suc i) l) refl)
 
-  open-leaves : leftBy l i b r ≡ leftBy l i c r
+  open-leaves : leavesFrom l i b r ≡ leavesFrom l i c r
   open-leaves = stage-same c b (drop i l) (drop i l) refl alike r
 
   module _ (c₁ : Progress) (j : ℕ) (r₁ : List ℕ) (k : Kept l b i r c₁ j r₁) where

@@ -20,14 +20,14 @@ pub record Ready (l : List ℕ) (i : ℕ) (c : Progress) : Type 0 where
   pub sound : Sound (16384 - length l + i) c
 
 -- what the dwords from i on leave
-abbrev pub leftBy : List ℕ → ℕ → Progress → List ℕ → Stage
-leftBy l i c r = stageAfter (stage c r) (drop i l)
+abbrev pub leavesFrom : List ℕ → ℕ → Progress → List ℕ → Stage
+leavesFrom l i c r = stageAfter (stage c r) (drop i l)
 
 -- from dword j on what is left leaves what it did from dword i on
 pub record Kept (l : List ℕ) (c : Progress) (i : ℕ) (r : List ℕ) (c′ : Progress) (j : ℕ) (r′ : List ℕ) : Type 0 where
   pub forth : i ≤ j
   pub ready : Ready l j c′
-  pub leaves : leftBy l j c′ r′ ≡ leftBy l i c r
+  pub leaves : leavesFrom l j c′ r′ ≡ leavesFrom l i c r
 
 -- the same, with a dword read at least
 pub record Went (l : List ℕ) (c : Progress) (i : ℕ) (r : List ℕ) (c′ : Progress) (j : ℕ) (r′ : List ℕ) : Type 0 where

@@ -31,9 +31,9 @@ use Rattle.progress.proofs.Fitted.{written-length, written-other, written-at}
 use Rattle.progress.proofs.Stops.{stopRead, stop-kept, stop-same}
 use Rattle.feed.specs.declared.Carried.{Carried}
 use Rattle.feed.specs.declared.Fed.{Fed}
-use Rattle.feed.specs.Feeding.{fresh, resumed, carriedBy, Taken, Left, left, leftBy, chunkTaken, refusedBy, afterChunk, answerAt, isStop, usable, saysMore, gives, answered, fedOf, Outcome, outcome, feedOf}
+use Rattle.feed.specs.Feeding.{fresh, resumed, carriedBy, Taken, Left, left, leftBy, chunkTaken, refusedBy, afterChunk, answerAt, isStop, usable, saysMore, gives, answered, fedOf, Result, result, feedOf}
 use Rattle.feed.specs.Counting.{dwordsAfter}
-use Rattle.feed.specs.Cutting.{Call, call, made, leaves, leavesAll, calls, beforeLast, lastMade, afterLast, joined, endWithin, keptIn, recordsKept, Words, Cut, Earlier, Late, Said, NotLast, Unread, Numbered, SameCut, cutAt, lastOf, lengthsOf, chunksOf, Throughout, Guards, Chunked}
+use Rattle.feed.specs.Claims.{Call, call, made, leaves, leavesAll, calls, beforeLast, lastMade, afterLast, joined, endWithin, keptIn, recordsKept, Words, Cut, Earlier, Late, Said, NotLast, Unread, Numbered, SameCut, cutAt, lastOf, lengthsOf, chunksOf, Throughout, Guards, Chunked}
 use Rattle.feed.proofs.Counting.{take-chunk}
 use Rattle.feed.proofs.Feeds.{usable-answered, usable-open, usable-few, usable-rest-on}
 use Rattle.feed.proofs.Within.{complete}
@@ -44,11 +44,11 @@ module _ (chip capacity : ℕ) (c : Carried) (chunk : List ℕ) (last : Bool) (r
   abbrev after : Left
   after = afterChunk chip capacity c chunk r
 
-  fed-usable : usable c ≡ true → feedOf chip capacity c chunk last r ≡ outcome (fedOf last (length r) (after .carried)) (after .records)
+  fed-usable : usable c ≡ true → feedOf chip capacity c chunk last r ≡ result (fedOf last (length r) (after .carried)) (after .records)
   unfolding feedOf
   fed-usable u = simp u
 
-  fed-late : usable c ≡ false → feedOf chip capacity c chunk last r ≡ outcome (gives c (refusedAnswer 19 0)) r
+  fed-late : usable c ≡ false → feedOf chip capacity c chunk last r ≡ result (gives c (refusedAnswer 19 0)) r
   unfolding feedOf
   fed-late u = simp u
 
@@ -60,8 +60,8 @@ module _ (chip capacity : ℕ) (c : Carried) (chunk : List ℕ) (last : Bool) (r
   unfolding afterChunk
   after-none-named u = on-none (λ m p. left (refusedBy m p c) r) (λ x. chunkTaken (targetOf x capacity) c chunk r) chip u
 
-  by-after : usable c ≡ true → (x : Left) → after ≡ x → feedOf chip capacity c chunk last r ≡ outcome (fedOf last (length r) (x .carried)) (x .records)
-  by-after u x e = fed-usable u ∙ ap (λ (y : Left). outcome (fedOf last (length r) (y .carried)) (y .records)) e
+  by-after : usable c ≡ true → (x : Left) → after ≡ x → feedOf chip capacity c chunk last r ≡ result (fedOf last (length r) (x .carried)) (x .records)
+  by-after u x e = fed-usable u ∙ ap (λ (y : Left). result (fedOf last (length r) (y .carried)) (y .records)) e
 
 -- what a call that is not the last leaves
 more-leaves : (c : Carried) (n : ℕ) → fedOf false n c .carried ≡ c
@@ -76,12 +76,12 @@ module _ (chip capacity : ℕ) (ch : Chip) (named : chip ≡ numberOf ch) (r : L
     abbrev x : Left
     x = chunkTaken target (w .carried) chunk (w .records)
 
-    made-is : (last : Bool) → made w (call chip capacity chunk last) ≡ outcome (fedOf last (length (w .records)) (x .carried)) (x .records)
+    made-is : (last : Bool) → made w (call chip capacity chunk last) ≡ result (fedOf last (length (w .records)) (x .carried)) (x .records)
     made-is last =
         by-after chip capacity (w .carried) chunk last (w .records) (after-usable target r b w h) x (after-named chip capacity (w .carried) chunk last (w .records) ch named)
 
     more-is : leaves w (call chip capacity chunk false) ≡ x
-    more-is = ap (λ (o : Outcome). left (o .fed .carried) (o .records)) (made-is false)
+    more-is = ap (λ (o : Result). left (o .fed .carried) (o .records)) (made-is false)
 
     after-more : After target r (b ++ chunk) (leaves w (call chip capacity chunk false))
     after-more = subst (After target r (b ++ chunk)) (sym more-is) (after-chunk target r b w h chunk)
@@ -127,7 +127,7 @@ module _ (chip capacity : ℕ) (ch : Chip) (named : chip ≡ numberOf ch) (r : L
   done : After tg r b y
   done = subst (λ (l : List ℕ). After tg r l y) (joined-last chunks last) (after-chunk tg r (joined chunks []) w (before chip capacity ch named r chunks) last)
 
-  call-is : (final : Bool) → made w (call chip capacity last final) ≡ outcome (fedOf final (length (w .records)) (y .carried)) (y .records)
+  call-is : (final : Bool) → made w (call chip capacity last final) ≡ result (fedOf final (length (w .records)) (y .carried)) (y .records)
   call-is final = made-is chip capacity ch named r (joined chunks []) w (before chip capacity ch named r chunks) last final
 
   room : length (w .records) ≡ length r
@@ -148,7 +148,7 @@ module _ (chip capacity : ℕ) (ch : Chip) (named : chip ≡ numberOf ch) (r : L
   left-kept = kept-are tg r b y done
 
   records-are : (final : Bool) → made w (call chip capacity last final) .records ≡ writtenFit (keptIn tg b) 0 r
-  records-are final = ap (λ (o : Outcome). o .records) (call-is final) ∙ left-kept
+  records-are final = ap (λ (o : Result). o .records) (call-is final) ∙ left-kept
 
   words-for : ForChip chip (λ c. Words (keptIn (targetOf c capacity) b) r (lastMade chip capacity chunks last r .records))
   words-for c e =
@@ -158,9 +158,9 @@ module _ (chip capacity : ℕ) (ch : Chip) (named : chip ≡ numberOf ch) (r : L
   cut-named : Cut chip capacity chunks last r
   cut-named =
       record {
-        says = ap (λ (o : Outcome). o .fed .more) (call-is true);
+        says = ap (λ (o : Result). o .fed .more) (call-is true);
         answer =
-            ap (λ (o : Outcome). o .fed .answer) (call-is true)
+            ap (λ (o : Result). o .fed .answer) (call-is true)
             ∙ ap (λ (n : ℕ). answerAt n (y .carried)) room ∙ answer-is tg r b y done ∙ sym answer-of;
         records = records-are true ∙ sym kept-of;
         words = words-for;
@@ -171,8 +171,8 @@ module _ (chip capacity : ℕ) (ch : Chip) (named : chip ≡ numberOf ch) (r : L
   earlier-named : Earlier chip capacity chunks last r
   earlier-named =
       record {
-        says = ap (λ (o : Outcome). o .fed .more) (call-is false);
-        free = ap (λ (o : Outcome). o .fed .answer) (call-is false);
+        says = ap (λ (o : Result). o .fed .more) (call-is false);
+        free = ap (λ (o : Result). o .fed .answer) (call-is false);
         records = records-are false ∙ sym kept-of;
       }
 
@@ -183,7 +183,7 @@ module _ (chip capacity : ℕ) (none : Unnamed chip) (r : List ℕ) where
     pub same : w .records ≡ r
 
   module _ (w : Left) (h : Idle w) (chunk : List ℕ) where
-    none-made : (last : Bool) → made w (call chip capacity chunk last) ≡ outcome (fedOf last (length (w .records)) (refusedBy 18 0 (w .carried))) (w .records)
+    none-made : (last : Bool) → made w (call chip capacity chunk last) ≡ result (fedOf last (length (w .records)) (refusedBy 18 0 (w .carried))) (w .records)
     none-made last =
         by-after chip capacity (w .carried) chunk last (w .records) (h .goes) (left (refusedBy 18 0 (w .carried)) (w .records))
         (after-none-named chip capacity (w .carried) chunk last (w .records) none)
@@ -197,8 +197,8 @@ module _ (chip capacity : ℕ) (none : Unnamed chip) (r : List ℕ) where
     idle-more : Idle (leaves w (call chip capacity chunk false))
     idle-more =
         record {
-          goes = ap (λ (o : Outcome). usable (o .fed .carried)) (none-made false) ∙ still-usable;
-          same = ap (λ (o : Outcome). o .records) (none-made false) ∙ h .same;
+          goes = ap (λ (o : Result). usable (o .fed .carried)) (none-made false) ∙ still-usable;
+          same = ap (λ (o : Result). o .records) (none-made false) ∙ h .same;
         }
 
   idle-calls : (chunks : List (List ℕ)) (w : Left) → Idle w → Idle (leavesAll w (calls chip capacity chunks))
@@ -221,7 +221,7 @@ module _ (chip capacity : ℕ) (none : Unnamed chip) (r : List ℕ) where
     b₀ = joined chunks last
 
     none-records : (final : Bool) → made w₀ (call chip capacity last final) .records ≡ r
-    none-records final = ap (λ (o : Outcome). o .records) (none-made w₀ idle last final) ∙ idle .same
+    none-records final = ap (λ (o : Result). o .records) (none-made w₀ idle last final) ∙ idle .same
 
     eighteen : (n : ℕ) (c : Carried) → answerAt n (refusedBy 18 0 c) ≡ refusedAnswer 18 0
     unfolding answerAt
@@ -234,9 +234,9 @@ module _ (chip capacity : ℕ) (none : Unnamed chip) (r : List ℕ) where
     unfolding answerOf recordsOf
     cut-none =
         record {
-          says = ap (λ (o : Outcome). o .fed .more) (none-made w₀ idle last true);
+          says = ap (λ (o : Result). o .fed .more) (none-made w₀ idle last true);
           answer =
-              ap (λ (o : Outcome). o .fed .answer) (none-made w₀ idle last true) ∙ eighteen (length (w₀ .records)) (w₀ .carried)
+              ap (λ (o : Result). o .fed .answer) (none-made w₀ idle last true) ∙ eighteen (length (w₀ .records)) (w₀ .carried)
               ∙ sym (on-none refusedAnswer (λ c. answerFor (targetOf c capacity) b₀ r) chip none);
           records = none-records true ∙ sym none-kept;
           words = λ c e. absurd (none c e);
@@ -247,8 +247,8 @@ module _ (chip capacity : ℕ) (none : Unnamed chip) (r : List ℕ) where
     earlier-none : Earlier chip capacity chunks last r
     earlier-none =
         record {
-          says = ap (λ (o : Outcome). o .fed .more) (none-made w₀ idle last false);
-          free = ap (λ (o : Outcome). o .fed .answer) (none-made w₀ idle last false);
+          says = ap (λ (o : Result). o .fed .more) (none-made w₀ idle last false);
+          free = ap (λ (o : Result). o .fed .answer) (none-made w₀ idle last false);
           records = none-records false ∙ sym none-kept;
         }
 
@@ -270,11 +270,11 @@ earlier chip capacity chunks chunk r =
 
 -- AFTER AN ANSWER
 module _ (w : Left) (u : usable (w .carried) ≡ false) where
-  refused-made : (c : Call) → made w c ≡ outcome (gives (w .carried) (refusedAnswer 19 0)) (w .records)
+  refused-made : (c : Call) → made w c ≡ result (gives (w .carried) (refusedAnswer 19 0)) (w .records)
   refused-made c = fed-late (c .chip) (c .capacity) (w .carried) (c .chunk) (c .last) (w .records) u
 
   refused-leaves : (c : Call) → leaves w c ≡ w
-  refused-leaves c = ap (λ (o : Outcome). left (o .fed .carried) (o .records)) (refused-made c)
+  refused-leaves c = ap (λ (o : Result). left (o .fed .carried) (o .records)) (refused-made c)
 
 refused-all : (late : List Call) (w : Left) → usable (w .carried) ≡ false → leavesAll w late ≡ w
 unfolding leavesAll
@@ -291,13 +291,13 @@ closed c = sym (usable-answered (answered c) (λ e. omega arith))
 answer-closes : (w : Left) (c : Call) → made w c .fed .more ≡ 0 → usable (leaves w c .carried) ≡ false
 answer-closes w c q =
     by-test (usable (w .carried))
-    (λ u. ap (λ (o : Outcome). usable (o .fed .carried)) (taken u) ∙ by-last (c .last) (sym (ap (λ (o : Outcome). o .fed .more) (taken u)) ∙ q))
+    (λ u. ap (λ (o : Result). usable (o .fed .carried)) (taken u) ∙ by-last (c .last) (sym (ap (λ (o : Result). o .fed .more) (taken u)) ∙ q))
     (λ u. ap (λ (x : Left). usable (x .carried)) (refused-leaves w u c) ∙ u)
   where
     k : Carried
     k = afterChunk (c .chip) (c .capacity) (w .carried) (c .chunk) (w .records) .carried
 
-    taken : usable (w .carried) ≡ true → made w c ≡ outcome (fedOf (c .last) (length (w .records)) k) (afterChunk (c .chip) (c .capacity) (w .carried) (c .chunk) (w .records) .records)
+    taken : usable (w .carried) ≡ true → made w c ≡ result (fedOf (c .last) (length (w .records)) k) (afterChunk (c .chip) (c .capacity) (w .carried) (c .chunk) (w .records) .records)
     taken u = fed-usable (c .chip) (c .capacity) (w .carried) (c .chunk) (c .last) (w .records) u
 
     by-last : (t : Bool) → fedOf t (length (w .records)) k .more ≡ 0 → usable (fedOf t (length (w .records)) k .carried) ≡ false
@@ -391,18 +391,18 @@ module _ (w : Left) (c : Call) where
   abbrev k : Carried
   k = afterChunk (c .chip) (c .capacity) (w .carried) (c .chunk) (w .records) .carried
 
-  taken : usable (w .carried) ≡ true → made w c ≡ outcome (fedOf (c .last) (length (w .records)) k) (afterChunk (c .chip) (c .capacity) (w .carried) (c .chunk) (w .records) .records)
+  taken : usable (w .carried) ≡ true → made w c ≡ result (fedOf (c .last) (length (w .records)) k) (afterChunk (c .chip) (c .capacity) (w .carried) (c .chunk) (w .records) .records)
   taken u = fed-usable (c .chip) (c .capacity) (w .carried) (c .chunk) (c .last) (w .records) u
 
   taken-number : usable (w .carried) ≡ true → NumberOf (made w c .fed .answer)
   taken-number u =
-      subst (λ (o : Outcome). NumberOf (o .fed .answer)) (sym (taken u))
+      subst (λ (o : Result). NumberOf (o .fed .answer)) (sym (taken u))
       (fed-number k (length (w .records)) (c .last) (after-stop (c .chip) (c .capacity) (w .carried) (c .chunk) (c .last) (w .records) u))
 
   pub numbered : Numbered (made w c .fed)
   numbered =
       by-test (usable (w .carried)) (λ u. widen (taken-number u))
-      (λ u. subst (λ (o : Outcome). Numbered (o .fed)) (sym (refused-made w u c)) (inr (inr refl)))
+      (λ u. subst (λ (o : Result). Numbered (o .fed)) (sym (refused-made w u c)) (inr (inr refl)))
     where
       widen : NumberOf (made w c .fed .answer) → Numbered (made w c .fed)
       widen (inl x) = inl x
@@ -420,8 +420,8 @@ module _ (w : Left) (c : Call) where
   said =
       record {
         last = λ e.
-            by-test (usable (w .carried)) (λ u. ap (λ (o : Outcome). o .fed .more) (taken u) ∙ last-more (c .last) e)
-            (λ u. ap (λ (o : Outcome). o .fed .more) (refused-made w u c));
+            by-test (usable (w .carried)) (λ u. ap (λ (o : Result). o .fed .more) (taken u) ∙ last-more (c .last) e)
+            (λ u. ap (λ (o : Result). o .fed .more) (refused-made w u c));
         refused = λ e. by-test (usable (w .carried)) (λ u. absurd (not-nineteen (taken-number u) e)) (λ u. refused-made w u c);
         late = λ e. late-from (made w c .fed .carried) (answer-closes w c e);
       }
@@ -455,12 +455,12 @@ module _ (w : Left) (h : Marked w) (c : Call) where
   still : (l : Left) → afterChunk (c .chip) (c .capacity) (w .carried) (c .chunk) (w .records) ≡ l → usable (l .carried) ≡ true → l .carried .stop ≡ 18
       → c .last ≡ false → Marked (leaves w c)
   still l e u s q =
-      let m : made w c ≡ outcome (fedOf false (length (w .records)) (l .carried)) (l .records) =
+      let m : made w c ≡ result (fedOf false (length (w .records)) (l .carried)) (l .records) =
       by-after (c .chip) (c .capacity) (w .carried) (c .chunk) (c .last) (w .records) (h .goes) l e
-      ∙ ap (λ (t : Bool). outcome (fedOf t (length (w .records)) (l .carried)) (l .records)) q in
+      ∙ ap (λ (t : Bool). result (fedOf t (length (w .records)) (l .carried)) (l .records)) q in
       record {
-        goes = ap (λ (o : Outcome). usable (o .fed .carried)) m ∙ u;
-        eighteenth = ap (λ (o : Outcome). o .fed .carried .stop) m ∙ s;
+        goes = ap (λ (o : Result). usable (o .fed .carried)) m ∙ u;
+        eighteenth = ap (λ (o : Result). o .fed .carried .stop) m ∙ s;
       }
 
   marked-more : c .last ≡ false → Marked (leaves w c)
@@ -487,9 +487,9 @@ module _ (w : Left) (h : Marked w) (c : Call) where
     where
       by-left : (l : Left) → afterChunk (c .chip) (c .capacity) (w .carried) (c .chunk) (w .records) ≡ l → l .carried .stop ≡ 18 → made w c .fed .answer ≡ refusedAnswer 18 0
       by-left l e s =
-          ap (λ (o : Outcome). o .fed .answer)
+          ap (λ (o : Result). o .fed .answer)
           (by-after (c .chip) (c .capacity) (w .carried) (c .chunk) (c .last) (w .records) (h .goes) l e
-          ∙ ap (λ (t : Bool). outcome (fedOf t (length (w .records)) (l .carried)) (l .records)) q)
+          ∙ ap (λ (t : Bool). result (fedOf t (length (w .records)) (l .carried)) (l .records)) q)
           ∙ answers-eighteen (l .carried) s (length (w .records))
 
 marked-all : (cs : List Call) (w : Left) → Marked w → NotLast cs → Marked (leavesAll w cs)
@@ -503,20 +503,20 @@ marks w c n e =
     by-test (usable (w .carried))
     (λ u. let m = by-after (c .chip) (c .capacity) (w .carried) (c .chunk) (c .last) (w .records) u (left (refusedBy 18 0 (w .carried)) (w .records))
     (after-none-named (c .chip) (c .capacity) (w .carried) (c .chunk) (c .last) (w .records) n) in
-    by-last u m (c .last) refl (sym (ap (λ (o : Outcome). o .fed .more) m) ∙ e))
-    (λ u. let z : _≡_ {A = ℕ} 0 1 = sym (ap (λ (o : Outcome). o .fed .more) (refused-made w u c)) ∙ e in absurd (omega arith))
+    by-last u m (c .last) refl (sym (ap (λ (o : Result). o .fed .more) m) ∙ e))
+    (λ u. let z : _≡_ {A = ℕ} 0 1 = sym (ap (λ (o : Result). o .fed .more) (refused-made w u c)) ∙ e in absurd (omega arith))
   where
-    by-last : usable (w .carried) ≡ true → made w c ≡ outcome (fedOf (c .last) (length (w .records)) (refusedBy 18 0 (w .carried))) (w .records) → (t : Bool) → c .last ≡ t
+    by-last : usable (w .carried) ≡ true → made w c ≡ result (fedOf (c .last) (length (w .records)) (refusedBy 18 0 (w .carried))) (w .records) → (t : Bool) → c .last ≡ t
         → fedOf (c .last) (length (w .records)) (refusedBy 18 0 (w .carried)) .more ≡ 1 → Marked (leaves w c)
     by-last u m true q f =
         let z : _≡_ {A = ℕ} 0 1 = sym (ap (λ (t : Bool). fedOf t (length (w .records)) (refusedBy 18 0 (w .carried)) .more) q) ∙ f in absurd (omega arith)
     by-last u m false q f =
-        let o : made w c ≡ outcome (saysMore (refusedBy 18 0 (w .carried))) (w .records) =
-        m ∙ ap (λ (t : Bool). outcome (fedOf t (length (w .records)) (refusedBy 18 0 (w .carried))) (w .records)) q in
+        let o : made w c ≡ result (saysMore (refusedBy 18 0 (w .carried))) (w .records) =
+        m ∙ ap (λ (t : Bool). result (fedOf t (length (w .records)) (refusedBy 18 0 (w .carried))) (w .records)) q in
         record {
-          goes = ap (λ (x : Outcome). usable (x .fed .carried)) o
+          goes = ap (λ (x : Result). usable (x .fed .carried)) o
               ∙ marked-usable 0 (refusedBy 18 0 (w .carried)) (usable-open (w .carried) u) (usable-few (w .carried) u) refl;
-          eighteenth = ap (λ (x : Outcome). x .fed .carried .stop) o;
+          eighteenth = ap (λ (x : Result). x .fed .carried .stop) o;
         }
 
 pub unread : (w : Left) (c : Call) (between : List Call) (last : Call) → Unread w c between last

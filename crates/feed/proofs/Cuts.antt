@@ -33,7 +33,7 @@ use Rattle.progress.proofs.Stops.{stopRead, stop-kept}
 use Rattle.feed.specs.declared.Carried.{Carried}
 use Rattle.feed.specs.Feeding.{fresh, resumed, carriedBy, Taken, taken, takeChunk, Left, left, leftBy, chunkTaken, answerAt, isStop, readOf, goesOn, usable}
 use Rattle.feed.specs.Counting.{dwordsAfter}
-use Rattle.feed.specs.Cutting.{endWithin, keptIn}
+use Rattle.feed.specs.Claims.{endWithin, keptIn}
 use Rattle.feed.proofs.Counting.{take-chunk}
 use Rattle.feed.proofs.Within.{within}
 

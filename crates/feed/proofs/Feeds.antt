@@ -25,7 +25,7 @@ use Rattle.command.specs.declared.State.{State}
 use Rattle.feed.specs.declared.Order.{Order}
 use Rattle.feed.specs.declared.Carried.{Carried}
 use Rattle.feed.specs.declared.Fed.{Fed}
-use Rattle.feed.specs.Feeding.{stateBy, orderBy, resumed, carriedBy, Taken, taken, takeChunk, Left, left, leftBy, chunkTaken, refusedBy, afterChunk, answerAt, isStop, readOf, goesOn, usable, gives, answered, fedOf, lateFed, Outcome, outcome, feedOf}
+use Rattle.feed.specs.Feeding.{stateBy, orderBy, resumed, carriedBy, Taken, taken, takeChunk, Left, left, leftBy, chunkTaken, refusedBy, afterChunk, answerAt, isStop, readOf, goesOn, usable, gives, answered, fedOf, lateFed, Result, result, feedOf}
 use Rattle.feed.specs.Counting.{readCount, dwordsAfter}
 use Rattle.feed.proofs.Counting.{read-few, read-take, take-chunk}
 
@@ -292,13 +292,13 @@ module _ (chip capacity : ℕ) (c : Carried) (l : List ℕ) (last : Bool) (r : L
   goes-usable e = sym eu ∙ e
 
   pub feed-taken : (c′ : Carried) (r′ : List ℕ) (f : Fed) → u ≡ true → length r′ ≡ length r → left c′ r′ ≡ afterChunk chip capacity c l r
-      → f ≡ fedOf last (length r′) c′ → outcome f r′ ≡ feedOf chip capacity c l last r
+      → f ≡ fedOf last (length r′) c′ → result f r′ ≡ feedOf chip capacity c l last r
   unfolding feedOf
   feed-taken c′ r′ f e z es ef =
       simp (sym eu ∙ e)
-      (ap (λ (x : Fed). outcome x r′) (ef ∙ ap (λ (n : ℕ). fedOf last n c′) z)
-      ∙ ap (λ (x : Left). outcome (fedOf last (length r) (x .carried)) (x .records)) es)
+      (ap (λ (x : Fed). result x r′) (ef ∙ ap (λ (n : ℕ). fedOf last n c′) z)
+      ∙ ap (λ (x : Left). result (fedOf last (length r) (x .carried)) (x .records)) es)
 
-  pub feed-late : (f : Fed) → u ≡ false → f ≡ lateFed c → outcome f r ≡ feedOf chip capacity c l last r
+  pub feed-late : (f : Fed) → u ≡ false → f ≡ lateFed c → result f r ≡ feedOf chip capacity c l last r
   unfolding feedOf
-  feed-late f e ef = simp (sym eu ∙ e) (ap (λ (x : Fed). outcome x r) ef)
+  feed-late f e ef = simp (sym eu ∙ e) (ap (λ (x : Fed). result x r) ef)

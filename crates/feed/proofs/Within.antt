@@ -22,7 +22,7 @@ use Rattle.reading.specs.Turns.{walk, here}
 use Rattle.reading.proofs.Walk.{reading-walk}
 use Rattle.progress.proofs.Runs.{head-part}
 use Rattle.progress.proofs.Fold.{refuses, judge-short, judge-whole}
-use Rattle.feed.specs.Cutting.{endWithin, Complete}
+use Rattle.feed.specs.Claims.{endWithin, Complete}
 
 -- what is passed by a verdict on a command, before a rest
 abbrev passedBy : Verdict → Command → List Command → List Command

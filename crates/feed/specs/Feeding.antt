@@ -10,7 +10,7 @@ use lib.Dec.{ltb, leb, eqb}
 use Rattle.chips.specs.declared.Target.{Target}
 use Rattle.chips.specs.Chips.{targetOf, onChip}
 use Rattle.command.specs.declared.State.{State}
-use Rattle.reading.specs.Decision.{atStop}
+use Rattle.reading.specs.Decision.{atLimit}
 use Rattle.batch.specs.declared.Answer.{Answer}
 use Rattle.batch.specs.Answers.{refusedAnswer, acceptedAnswer}
 use Rattle.progress.specs.declared.Progress.{Progress}
@@ -129,15 +129,15 @@ unfoldable pub afterChunk : ℕ → ℕ → Carried → List ℕ → List ℕ �
 afterChunk chip capacity c chunk r =
     onChip (λ number place. left (refusedBy number place c) r) (λ named. chunkTaken (targetOf named capacity) c chunk r) chip
 
--- The answer after the last chunk, to a record buffer of so many words: 18 before all others, 1 by the dwords of all chunks, 2 to 10 as the
--- reading says.
+-- The answer after the last chunk, to a record buffer of so many words: 18 before all others; 1, "over 16,384 dwords (place 0)", by the
+-- dwords of all chunks; 2 to 10 as the reading says.
 unfoldable pub answerAt : ℕ → Carried → Answer
 answerAt room c =
     cond (eqb (c .stop) 18) (refusedAnswer 18 0)
-    (cond (ltb 16384 (c .dwords)) (refusedAnswer 1 0)
-    (atStop refusedAnswer acceptedAnswer room (c .order .commands) (stopBy (c .stop) (c .got) (c .place))))
+    (atLimit refusedAnswer acceptedAnswer (c .dwords) room (c .order .commands) (stopBy (c .stop) (c .got) (c .place)))
 
--- how reading can have stopped: at a refusal that a call met, or at END
+-- Which carried states can be gone on from: a test that no paper has, for a caller who gives one that no call returned (docs/DECISIONS.md).
+-- How reading can have stopped: at a refusal of 3 to 9 or 18, or at END.
 abbrev pub isStop : ℕ → Bool
 isStop n = (leb 3 n && leb n 9) || eqb n 18 || eqb n atEnd
 
@@ -177,16 +177,16 @@ abbrev pub lateFed : Carried → Fed
 lateFed c = gives c (refusedAnswer 19 0)
 
 -- what a call gives back, and the record buffer at exit
-pub record Outcome : Type 0 where
+pub record Result : Type 0 where
   pub fed : Fed
   pub records : List ℕ
 
-abbrev pub outcome : Fed → List ℕ → Outcome
-outcome f r = record { fed = f; records = r }
+abbrev pub result : Fed → List ℕ → Result
+result f r = record { fed = f; records = r }
 
 -- A call. 19 is "checked before 18"; "A new refusal .. changes nothing lent".
-unfoldable pub feedOf : ℕ → ℕ → Carried → List ℕ → Bool → List ℕ → Outcome
+unfoldable pub feedOf : ℕ → ℕ → Carried → List ℕ → Bool → List ℕ → Result
 feedOf chip capacity c chunk last r =
     let l = afterChunk chip capacity c chunk r in
-    cond (usable c) (outcome (fedOf last (length r) (l .carried)) (l .records))
-    (outcome (lateFed c) r)
+    cond (usable c) (result (fedOf last (length r) (l .carried)) (l .records))
+    (result (lateFed c) r)

@@ -1,3 +1,3 @@
 pub mod Feeding
 pub mod Counting
-pub mod Cutting
+pub mod Claims

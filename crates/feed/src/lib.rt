@@ -4,7 +4,7 @@ ghost use Prim.Native.Nat.{_≤_};
 ghost use mathlib.Core.Bool.{true};
 ghost use lib.ListN.{length};
 ghost use Rattle.feed.specs.Feeding.{stateBy, orderBy, resumed, carriedBy, isStop, readOf, goesOn, usable, refusedBy};
-ghost use Rattle.feed.specs.Feeding.{left, chunkTaken, afterChunk, answerAt, answered, fedOf, lateFed, outcome, feedOf};
+ghost use Rattle.feed.specs.Feeding.{left, chunkTaken, afterChunk, answerAt, answered, fedOf, lateFed, result, feedOf};
 ghost use Rattle.feed.specs.Counting.{readCount, dwordsAfter};
 use batch::Answer;
 use batch::accepted;
@@ -320,7 +320,7 @@ pub fn feed(
     capacity: u32,
     records: &mut [u32],
 ) -> Fed
-    ensures { λ r. ⌜ outcome r (now (records .exit)) ≡ feedOf chip capacity carried (now (chunk .entry)) last (now (records .entry)) ⌝ }
+    ensures { λ r. ⌜ result r (now (records .exit)) ≡ feedOf chip capacity carried (now (chunk .entry)) last (now (records .entry)) ⌝ }
 {
     if is_usable(carried) {
         let next = after_chunk(chip, capacity, carried, chunk, records);

@@ -1,5 +1,5 @@
 -- Demand 3, one statement of two halves, over the definitions that the contracts cite. The terms are those of document 01, "What each
--- entry owes its caller"; each half's words stand beside its definitions, reading/specs/Isolation.antt and
+-- entry owes its caller"; each half's words stand beside its definitions, reading/specs/Isolation.antt, feed/specs/Claims.antt and
 -- replay_claims/specs/Isolation.antt. Beside each half stand the guards of its words: whatever the paper lets differ, they let differ too.
 use mathlib.Core.Path.{_≡_}
 use mathlib.Core.List.{List}
@@ -11,8 +11,8 @@ use Rattle.reading.specs.Reading.{readingOf}
 use Rattle.reading.specs.Isolation.{Alike, BytesAlike}
 use Rattle.batch.specs.Answers.{answerOf, recordsOf, bytesAnswerOf, bytesRecordsOf}
 use Rattle.batch.specs.Isolation as checks
-use Rattle.feed.specs.Cutting as cuttings
-use Rattle.feed.specs.Cutting.{Call, joined, SameCut}
+use Rattle.feed.specs.Claims as cuttings
+use Rattle.feed.specs.Claims.{Call, joined, SameCut}
 use Rattle.scoreboard.specs.Answers.{orderOf, bytesOrderOf}
 use Rattle.replay_claims.specs.Isolation as replays
 use Rattle.replay_claims.specs.Isolation.{Outside, Isolated}

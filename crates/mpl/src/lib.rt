@@ -4,7 +4,7 @@ ghost use Rattle.deltas.specs.InPlay.{inPlay, counted};
 ghost use Rattle.batch.specs.Answers.{answerOf, recordsOf, bytesAnswerOf, bytesRecordsOf};
 ghost use mathlib.Core.Bool.{not};
 ghost use lib.Dec.{eqb};
-ghost use Rattle.feed.specs.Feeding.{outcome, feedOf};
+ghost use Rattle.feed.specs.Feeding.{result, feedOf};
 ghost use Rattle.scoreboard.specs.Answers.{orderOf, bytesOrderOf};
 ghost use Rattle.gateway.specs.Replay.{replayOf};
 
@@ -46,7 +46,7 @@ pub extern "C" fn mpl_feed(
     capacity: u32,
     records: &mut [u32],
 ) -> feed::Fed
-    ensures { λ r. ⌜ outcome r (now (records .exit))
+    ensures { λ r. ⌜ result r (now (records .exit))
         ≡ feedOf chip capacity carried (now (chunk .entry)) (not (eqb last 0)) (now (records .entry)) ⌝ }
 {
     feed::feed(chip, carried, chunk, last != 0, capacity, records)

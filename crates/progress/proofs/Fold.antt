@@ -26,7 +26,7 @@ use Rattle.reading.specs.Turns.{turned, turnOf, walk, here}
 use Rattle.reading.proofs.Walk.{reading-walk, then, walk-turn}
 use Rattle.reading.proofs.Scans.{grown}
 use Rattle.progress.specs.declared.Progress.{Progress}
-use Rattle.progress.specs.Steps.{kindIn, totalIn, none, Event, fault, unfinished, passes, judged, between, atEnd, afterEvent, whole, stopBy, stopOf}
+use Rattle.progress.specs.Steps.{kindIn, totalIn, none, Change, fault, unfinished, passes, judged, between, atEnd, afterChange, whole, stopBy, stopOf}
 use Rattle.progress.specs.Sound.{Sound}
 use Rattle.progress.proofs.Runs.{Run, ran, passing, andThen, run, runFrom, run-stopped, held, run-refused, run-short, run-command}
 
@@ -42,8 +42,8 @@ module _ (m : ℕ) (p : T (leb 3 m && leb m 9)) where
   pub number-end : m ≡ atEnd → ⊥
   number-end e = subst (λ (x : ℕ). T (leb 3 x && leb x 9)) e p
 
-  stop-fault : (st : State) (at s : ℕ) → stopOf (afterEvent st at (fault m s)) ≡ stopped m (at + s)
-  unfolding stopBy afterEvent
+  stop-fault : (st : State) (at s : ℕ) → stopOf (afterChange st at (fault m s)) ≡ stopped m (at + s)
+  unfolding stopBy afterChange
   stop-fault st at s = simp (ne-eqb m 0 number-on, ne-eqb m atEnd number-end)
 
 -- rows 3 and 4 do not see how many dwords are left, and row 5 comes after them
@@ -109,16 +109,16 @@ module _ (st : State) (at a : ℕ) (ds : List ℕ) where
     number : T (leb 3 m && leb m 9)
     number = subst (λ (v : Verdict). T (inRange v)) refuses (fault-number k n h st)
 
-    refused-is : run (between st at) l ≡ ran [] (afterEvent st at (fault m s))
+    refused-is : run (between st at) l ≡ ran [] (afterChange st at (fault m s))
     refused-is = run-refused st at a ds m s e (number-on m number)
 
     refused-folds : Folds st at l
-    unfolding afterEvent
+    unfolding afterChange
     refused-folds =
         record {
           reads = ap readBy refused-is ∙ ap (reading []) (stop-fault m number st at s) ∙ sym (turn-walk ∙ ap turn refuses);
           sound = λ p q. subst (λ (x : Run). Sound (at + n) (x .progress)) (sym refused-is)
-              (sound-stopped (at + n) (afterEvent st at (fault m s)) (number-on m number));
+              (sound-stopped (at + n) (afterChange st at (fault m s)) (number-on m number));
         }
 
   module _ (hp : headerVerdict k a t ≡ Passed) where
@@ -172,7 +172,7 @@ module _ (st : State) (at a : ℕ) (ds : List ℕ) where
       ended-run = run-stopped (after atEnd) (λ f. omega arith) (drop t l)
 
       passed-run : (b : Bool) → eqb k 2 ≡ b → end Passed ≡ andThen st at (passes h) (run (after (cond b atEnd 0)) (drop t l))
-      unfolding afterEvent headOf
+      unfolding afterChange headOf
       passed-run b e = ap (λ (x : Bool). andThen st at (passes h) (run (after (cond x atEnd 0)) (drop t l))) e
 
       passed-turn : (b : Bool) → eqb k 2 ≡ b → turn Passed ≡ then (cond b Last (Next t next)) l at st
@@ -191,9 +191,9 @@ module _ (st : State) (at a : ℕ) (ds : List ℕ) where
       passed-reads false e = ap₂ (λ (c : Command) (x : Reading). reading (c ∷ x .passed) (x .stop)) whole-here (ih next .reads)
 
       reads-as : (v : Verdict) → T (inRange v) → readBy (end v) ≡ turn v
-      unfolding afterEvent
+      unfolding afterChange
       reads-as (Fault m s) p =
-          ap readBy (run-stopped (afterEvent st at (fault m s)) (number-on m p) (drop t l)) ∙ ap (reading []) (stop-fault m p st at s)
+          ap readBy (run-stopped (afterChange st at (fault m s)) (number-on m p) (drop t l)) ∙ ap (reading []) (stop-fault m p st at s)
       reads-as Passed p = ap readBy (passed-run (eqb k 2) refl) ∙ passed-reads (eqb k 2) refl ∙ sym (passed-turn (eqb k 2) refl)
 
       left-is : at + t + length (drop t l) ≡ at + n
@@ -210,10 +210,10 @@ module _ (st : State) (at a : ℕ) (ds : List ℕ) where
           subst (λ (m : ℕ). Sound m (run (after 0) (drop t l) .progress)) left-is (ih next .sound (omega arith) (omega arith))
 
       sound-as : (v : Verdict) → T (inRange v) → st .commands ≤ at → st .objects ≤ at → Sound (at + n) (end v .progress)
-      unfolding afterEvent
+      unfolding afterChange
       sound-as (Fault m s) f p q =
-          subst (λ (x : Run). Sound (at + n) (x .progress)) (sym (run-stopped (afterEvent st at (fault m s)) (number-on m f) (drop t l)))
-          (sound-stopped (at + n) (afterEvent st at (fault m s)) (number-on m f))
+          subst (λ (x : Run). Sound (at + n) (x .progress)) (sym (run-stopped (afterChange st at (fault m s)) (number-on m f) (drop t l)))
+          (sound-stopped (at + n) (afterChange st at (fault m s)) (number-on m f))
       sound-as Passed f p q = subst (λ (x : Run). Sound (at + n) (x .progress)) (sym (passed-run (eqb k 2) refl)) (passed-sound (eqb k 2) refl p q)
 
       whole-folds : Folds st at l

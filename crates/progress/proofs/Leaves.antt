@@ -24,7 +24,7 @@ use Rattle.record.specs.Record.{recordOf}
 use Rattle.records.specs.Records.{putWords}
 use Rattle.records.proofs.Buffers.{words-view}
 use Rattle.progress.specs.declared.Progress.{Progress}
-use Rattle.progress.specs.Steps.{kindIn, totalIn, Event, fault, passes, judged, settled, between, afterEvent, fitted, Stage, stage, byEvent, writtenBy}
+use Rattle.progress.specs.Steps.{kindIn, totalIn, Change, fault, passes, judged, settled, between, afterChange, fitted, Stage, stage, byChange, writtenBy}
 use Rattle.progress.specs.Parts.{gatheredIn, Counts}
 
 -- records
@@ -124,18 +124,18 @@ module _ (st : State) (at : ℕ) (h : List ℕ) (k t : ℕ) (ek : k ≡ kindIn s
   unfolding writtenBy
   wrote = er ∙ ap (fitted r (st .commands)) (ap₂ (λ (x y : ℕ). recordOf (commandOf x at y h st)) ek et)
 
-  after-is : (x : ℕ) → x ≡ cond (eqb k 2) 255 0 → stopAs x ≡ afterEvent st at (passes h)
-  unfolding afterEvent
+  after-is : (x : ℕ) → x ≡ cond (eqb k 2) 255 0 → stopAs x ≡ afterChange st at (passes h)
+  unfolding afterChange
   after-is x e =
       ap (λ (y : ℕ). stopAs y) (e ∙ ap (λ (y : ℕ). cond (eqb y 2) 255 0) ek)
       ∙ ap (λ (d : Progress). record { st = d .st; own = d .own; place = d .place; got = d .got; stop = cond (eqb (kindIn st h) 2) 255 0 }) ec
       ∙ ap₂ (λ (s : State) (p : ℕ). record { st = s; own = 0 ∷ 0 ∷ 0 ∷ 0 ∷ 0 ∷ 0 ∷ 0 ∷ 0 ∷ []; place = p; got = 0; stop = cond (eqb (kindIn st h) 2) 255 0 })
       (en ∙ ap (λ (y : ℕ). stateAfter y h st) ek) (ap (λ (y : ℕ). at + y) et)
 
-  pub pass-end : k ≡ 2 → stage (record { st = c .st; own = c .own; place = c .place; got = c .got; stop = 255 }) r′ ≡ byEvent st at (passes h) r
+  pub pass-end : k ≡ 2 → stage (record { st = c .st; own = c .own; place = c .place; got = c .got; stop = 255 }) r′ ≡ byChange st at (passes h) r
   pass-end e = ap₂ stage (after-is 255 (simp (eq-eqb k 2 e))) wrote
 
-  pub pass-on : (k ≡ 2 → ⊥) → stage c r′ ≡ byEvent st at (passes h) r
+  pub pass-on : (k ≡ 2 → ⊥) → stage c r′ ≡ byChange st at (passes h) r
   pass-on n = ap₂ stage (ap (λ (y : ℕ). stopAs y) (ap (λ (d : Progress). d .stop) ec) ∙ after-is 0 (simp (ne-eqb k 2 n))) wrote
 
 pub ruleset passed-laws = (pass-end, pass-on)
@@ -166,12 +166,12 @@ module _ (st : State) (at : ℕ) (h : List ℕ) (d k t : ℕ) (ed : d ≡ getD h
     verdict-is : settled st h ≡ judged v h
     verdict-is = ap (λ (x : Verdict). judged x h) (sym (ev ∙ ap₂ (λ (x y : ℕ). judgeOf x y h st) kind-is total-is))
 
-    pub settle-fault : (m s : ℕ) (r : List ℕ) (c : Progress) → v ≡ Fault m s → c ≡ afterEvent st at (fault m s) → stage c r ≡ byEvent st at (settled st h) r
+    pub settle-fault : (m s : ℕ) (r : List ℕ) (c : Progress) → v ≡ Fault m s → c ≡ afterChange st at (fault m s) → stage c r ≡ byChange st at (settled st h) r
     unfolding writtenBy
     settle-fault m s r c e ec =
-        ap (λ (x : Progress). stage x r) ec ∙ ap (λ (x : Event). byEvent st at x r) (sym (verdict-is ∙ ap (λ (x : Verdict). judged x h) e))
+        ap (λ (x : Progress). stage x r) ec ∙ ap (λ (x : Change). byChange st at x r) (sym (verdict-is ∙ ap (λ (x : Verdict). judged x h) e))
 
-    pub settle-passed : (s : Stage) (r : List ℕ) → v ≡ Passed → s ≡ byEvent st at (passes h) r → s ≡ byEvent st at (settled st h) r
-    settle-passed s r e q = q ∙ ap (λ (y : Event). byEvent st at y r) (sym (verdict-is ∙ ap (λ (y : Verdict). judged y h) e))
+    pub settle-passed : (s : Stage) (r : List ℕ) → v ≡ Passed → s ≡ byChange st at (passes h) r → s ≡ byChange st at (settled st h) r
+    settle-passed s r e q = q ∙ ap (λ (y : Change). byChange st at y r) (sym (verdict-is ∙ ap (λ (y : Verdict). judged y h) e))
 
 pub ruleset settles = (kind-is, total-is, settle-fault, settle-passed)

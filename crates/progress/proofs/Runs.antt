@@ -18,7 +18,7 @@ use Rattle.judge.specs.declared.Verdict.the-variants.{Fault, Passed}
 use Rattle.judge.specs.Refusals.{judgeOf, headerVerdict}
 use Rattle.judge.proofs.Judged.{own-in-total, total-pos}
 use Rattle.progress.specs.declared.Progress.{Progress}
-use Rattle.progress.specs.Steps.{kindIn, totalIn, alone, gathered, Event, fault, unfinished, passes, judged, settled, come, begun, beginning, eventOf, between, afterEvent, whole}
+use Rattle.progress.specs.Steps.{kindIn, totalIn, alone, gathered, Change, fault, unfinished, passes, judged, settled, come, begun, beginning, changeOf, between, afterChange, whole}
 use Rattle.progress.specs.Parts.{dwordsLeft}
 use Rattle.progress.proofs.Gathers.{gatheredAll, first-head, gather-all, total-kept}
 
@@ -30,23 +30,23 @@ abbrev pub ran : List Command → Progress → Run
 ran cs c = record { passed = cs; progress = c }
 
 -- the command that passes with an event, before others
-abbrev pub passing : State → ℕ → Event → List Command → List Command
+abbrev pub passing : State → ℕ → Change → List Command → List Command
 passing st at (fault m s) cs = cs
 passing st at (unfinished h g) cs = cs
 passing st at (passes h) cs = whole st at h ∷ cs
 
-abbrev pub andThen : State → ℕ → Event → Run → Run
+abbrev pub andThen : State → ℕ → Change → Run → Run
 andThen st at e x = ran (passing st at e (x .passed)) (x .progress)
 
 unfoldable pub run : Progress → List ℕ → Run
 run c [] = ran [] c
 run c (d ∷ ds) =
-    cond (eqb (c .stop) 0) (andThen (c .st) (c .place) (eventOf c d) (run (afterEvent (c .st) (c .place) (eventOf c d)) ds)) (ran [] c)
+    cond (eqb (c .stop) 0) (andThen (c .st) (c .place) (changeOf c d) (run (afterChange (c .st) (c .place) (changeOf c d)) ds)) (ran [] c)
 
-abbrev pub runFrom : State → ℕ → Event → List ℕ → Run
-runFrom st at e ds = andThen st at e (run (afterEvent st at e) ds)
+abbrev pub runFrom : State → ℕ → Change → List ℕ → Run
+runFrom st at e ds = andThen st at e (run (afterChange st at e) ds)
 
-pub run-step : (c : Progress) (d : ℕ) (ds : List ℕ) → c .stop ≡ 0 → run c (d ∷ ds) ≡ runFrom (c .st) (c .place) (eventOf c d) ds
+pub run-step : (c : Progress) (d : ℕ) (ds : List ℕ) → c .stop ≡ 0 → run c (d ∷ ds) ≡ runFrom (c .st) (c .place) (changeOf c d) ds
 unfolding run
 run-step c d ds o = simp (eq-eqb (c .stop) 0 o)
 
@@ -70,8 +70,8 @@ module _ (st : State) (at : ℕ) where
   come-whole h g q = simp (le-ltb g (totalIn st h) q)
 
   run-come : (h : List ℕ) (g : ℕ) (ds : List ℕ) → g < totalIn st h → runFrom st at (come st h g) ds ≡ run (held h g) ds
-  unfolding afterEvent
-  run-come h g ds q = ap (λ (e : Event). runFrom st at e ds) (come-short h g q)
+  unfolding afterChange
+  run-come h g ds q = ap (λ (e : Change). runFrom st at e ds) (come-short h g q)
 
   module _ (h : List ℕ) (g x : ℕ) (n : g ≡ 0 → ⊥) where
     held-step : (ds : List ℕ) → run (held h g) (x ∷ ds) ≡ runFrom st at (come st (gathered st h g x) (g + 1)) ds
@@ -114,7 +114,7 @@ module _ (st : State) (at : ℕ) where
   run-whole (x ∷ []) h g ds n p =
       let t = total-kept st h g x n in
       let y = left-one (totalIn st h) g p in
-      held-step h g x n ds ∙ ap (λ (e : Event). runFrom st at e ds) (come-whole (gathered st h g x) (g + 1) (omega arith))
+      held-step h g x n ds ∙ ap (λ (e : Change). runFrom st at e ds) (come-whole (gathered st h g x) (g + 1) (omega arith))
   run-whole (x ∷ y ∷ q) h g ds n p =
       let t = total-kept st h g x n in
       let z = left-more (totalIn st h) g (length q) p in
@@ -138,9 +138,9 @@ module _ (st : State) (at : ℕ) where
 
     -- LAW: rows 3 and 4 refuse it
     pub run-refused : (ds : List ℕ) (m s : ℕ) → headerVerdict k a t ≡ Fault m s → (m ≡ 0 → ⊥)
-        → run (between st at) (a ∷ ds) ≡ ran [] (afterEvent st at (fault m s))
-    unfolding afterEvent
-    run-refused ds m s e n = first-step ds (Fault m s) e ∙ run-stopped (afterEvent st at (fault m s)) n ds
+        → run (between st at) (a ∷ ds) ≡ ran [] (afterChange st at (fault m s))
+    unfolding afterChange
+    run-refused ds m s e n = first-step ds (Fault m s) e ∙ run-stopped (afterChange st at (fault m s)) n ds
 
     module _ (hp : headerVerdict k a t ≡ Passed) where
       first-held : (ds : List ℕ) → 1 < t → run (between st at) (a ∷ ds) ≡ run (held (alone a) 1) ds
@@ -176,7 +176,7 @@ module _ (st : State) (at : ℕ) where
           ∙ run-held ds (alone a) 1 [] (λ z. omega arith) (omega arith)
           ∙ ap₂ (λ (h : List ℕ) (g : ℕ). ran [] (held h g)) (gathers ds) e
 
-      abbrev end : List ℕ → Event
+      abbrev end : List ℕ → Change
       end ds = judged (judgeOf k t (head ds) st) (head ds)
 
       pub settled-is : (ds : List ℕ) → settled st (head ds) ≡ end ds
@@ -186,7 +186,7 @@ module _ (st : State) (at : ℕ) where
       one-whole : (ds : List ℕ) → t ≡ 1 → run (between st at) (a ∷ ds) ≡ runFrom st at (end ds) ds
       one-whole ds e =
           first-step ds Passed hp
-          ∙ ap (λ (x : Event). runFrom st at x ds)
+          ∙ ap (λ (x : Change). runFrom st at x ds)
           (come-whole (alone a) 1 (omega arith) ∙ ap (settled st) (first-head k a ∙ head-part ds 0 (omega arith)) ∙ settled-is ds)
 
       more-whole : (ds : List ℕ) → 1 < t → t ≤ suc (length ds) → run (between st at) (a ∷ ds) ≡ runFrom st at (end ds) (drop (t - 1) ds)
@@ -197,7 +197,7 @@ module _ (st : State) (at : ℕ) where
           ∙ ap (run (held (alone a) 1)) (sym (take-append-drop n ds))
           ∙ run-whole (take n ds) (alone a) 1 (drop n ds) (λ z. omega arith) z
           ∙ ap (λ (h : List ℕ). runFrom st at (settled st h) (drop n ds)) (gathers (take n ds) ∙ head-part ds n (omega arith))
-          ∙ ap (λ (x : Event). runFrom st at x (drop n ds)) (settled-is ds)
+          ∙ ap (λ (x : Change). runFrom st at x (drop n ds)) (settled-is ds)
 
       -- LAW: the whole command is there
       pub run-command : (ds : List ℕ) → t ≤ suc (length ds) → run (between st at) (a ∷ ds) ≡ runFrom st at (end ds) (drop t (a ∷ ds))

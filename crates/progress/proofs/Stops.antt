@@ -13,14 +13,14 @@ use Rattle.judge.specs.declared.Verdict.the-variants.{Fault, Passed}
 use Rattle.judge.specs.Refusals.{judgeOf, headerVerdict}
 use Rattle.judge.proofs.Judged.{judge-header, inRange, fault-number}
 use Rattle.progress.specs.declared.Progress.{Progress}
-use Rattle.progress.specs.Steps.{kindIn, totalIn, alone, gathered, Event, fault, unfinished, passes, judged, settled, come, begun, beginning, eventOf, atEnd, afterEvent}
+use Rattle.progress.specs.Steps.{kindIn, totalIn, alone, gathered, Change, fault, unfinished, passes, judged, settled, come, begun, beginning, changeOf, atEnd, afterChange}
 use Rattle.progress.proofs.Runs.{run}
 
 -- reading goes on, or has stopped so
 abbrev pub stopRead : ℕ → Bool
 stopRead n = eqb n 0 || (leb 3 n && leb n 9) || eqb n atEnd
 
-abbrev Known : Event → Type 0
+abbrev Known : Change → Type 0
 Known (fault m s) = T (leb 3 m && leb m 9)
 Known (unfinished h g) = Unit
 Known (passes h) = Unit
@@ -44,7 +44,7 @@ known-begun st d (Fault m s) e =
     subst (λ (x : Verdict). T (inRange x)) (judge-header k t (d ∷ []) st m s e) (fault-number k t (d ∷ []) st)
 known-begun st d Passed e = known-come st (alone d) 1
 
-known-event : (c : Progress) (d : ℕ) → Known (eventOf c d)
+known-event : (c : Progress) (d : ℕ) → Known (changeOf c d)
 unfolding beginning
 known-event c d = go (eqb (c .got) 0)
   where
@@ -57,8 +57,8 @@ either true b c t = refl
 either false true c t = refl
 either false false c t = absurd t
 
-known-after : (st : State) (at : ℕ) (e : Event) → Known e → stopRead (afterEvent st at e .stop) ≡ true
-unfolding afterEvent
+known-after : (st : State) (at : ℕ) (e : Change) → Known e → stopRead (afterChange st at e .stop) ≡ true
+unfolding afterChange
 known-after st at (fault m s) f = either (eqb m 0) (leb 3 m && leb m 9) (eqb m atEnd) f
 known-after st at (unfinished h g) f = refl
 known-after st at (passes h) f = go (eqb (kindIn st h) 2)
@@ -79,5 +79,5 @@ unfolding run
 stop-kept [] c h = h
 stop-kept (d ∷ ds) c h =
     by-test (eqb (c .stop) 0)
-    (λ t. simp t (stop-kept ds (afterEvent (c .st) (c .place) (eventOf c d)) (known-after (c .st) (c .place) (eventOf c d) (known-event c d))))
+    (λ t. simp t (stop-kept ds (afterChange (c .st) (c .place) (changeOf c d)) (known-after (c .st) (c .place) (changeOf c d) (known-event c d))))
     (λ t. subst (λ (p : Progress). stopRead (p .stop) ≡ true) (sym (stop-same (d ∷ ds) c t)) h)

@@ -1,4 +1,4 @@
--- Several dwords at once, as the code takes them: proofs/Runs.antt shows each equal to its dwords one by one.
+-- Several dwords at once, as the code takes them (proofs/Runs.antt shows each equal to its dwords one by one), and what it asks for.
 use Prim.Native.Nat.{ℕ, _+_, _-_, _≤_}
 use mathlib.Core.Bool.{cond}
 use mathlib.Core.List.{List, [], _∷_}

@@ -1,5 +1,5 @@
--- What is so of a reading that goes on after n dwords: no more have come of its commands, and no more commands and objects are counted
--- than dwords before the one that is not whole.
+-- What is so of a reading that goes on after n dwords: its commands, with what has come of the one that is not whole, have at most n
+-- dwords, and before that one no more commands and objects are counted than dwords.
 use mathlib.Core.Path.{_≡_}
 use Prim.Native.Nat.{ℕ, _+_, _≤_}
 use Rattle.progress.specs.declared.Progress.{Progress}

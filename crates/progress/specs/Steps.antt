@@ -37,36 +37,36 @@ gathered st h g d = cond (ltb g (ownDwords (kindIn st h))) (set h g d) h
 
 -- What a dword does while reading goes on: with it the command shows a fault (a number, and a place from its first dword on); or is not
 -- whole yet, with own dwords h and g dwords in all; or passes, with own dwords h.
-pub data Event : Type 0 where
-  fault : ℕ → ℕ → Event
-  unfinished : List ℕ → ℕ → Event
-  passes : List ℕ → Event
+pub data Change : Type 0 where
+  fault : ℕ → ℕ → Change
+  unfinished : List ℕ → ℕ → Change
+  passes : List ℕ → Change
 
-abbrev pub judged : Verdict → List ℕ → Event
+abbrev pub judged : Verdict → List ℕ → Change
 judged (Fault m s) h = fault m s
 judged Passed h = passes h
 
 -- a whole command is judged, by rows 3 to 9
-abbrev pub settled : State → List ℕ → Event
+abbrev pub settled : State → List ℕ → Change
 settled st h = judged (judgeOf (kindIn st h) (totalIn st h) h st) h
 
 -- g dwords of a command have come, its own dwords among them h. Before it is whole it is not judged: 5, "command runs past the slice",
 -- stands before 6 to 9.
-unfoldable pub come : State → List ℕ → ℕ → Event
+unfoldable pub come : State → List ℕ → ℕ → Change
 come st h g = cond (ltb g (totalIn st h)) (unfinished h g) (settled st h)
 
--- a command's first dword: rows 3 and 4 go by it alone, and without them its total is not known
-abbrev pub begun : Verdict → State → ℕ → Event
+-- a command's first dword: rows 3 and 4 go by it alone, and a header that they refuse has no total
+abbrev pub begun : Verdict → State → ℕ → Change
 begun (Fault m s) st d = fault m s
 begun Passed st d = come st (alone d) 1
 
-unfoldable pub beginning : State → ℕ → Event
+unfoldable pub beginning : State → ℕ → Change
 beginning st d = let k = kindOf (st .chip) d in begun (headerVerdict k d (totalOf k d)) st d
 
-abbrev pub eventOf : Progress → ℕ → Event
-eventOf c d = cond (eqb (c .got) 0) (beginning (c .st) d) (come (c .st) (gathered (c .st) (c .own) (c .got) d) (c .got + 1))
+abbrev pub changeOf : Progress → ℕ → Change
+changeOf c d = cond (eqb (c .got) 0) (beginning (c .st) d) (come (c .st) (gathered (c .st) (c .own) (c .got) d) (c .got + 1))
 
--- Reading stopped at END: `stop` is 0 while it goes on, and else the number of a refusal or this, which is none.
+-- Reading stopped at END: `stop` is 0 while it goes on, and else the number of a refusal or this, which is no refusal's number.
 abbrev pub atEnd : ℕ
 atEnd = 255
 
@@ -76,10 +76,10 @@ between st at = record { st = st; own = none; place = at; got = 0; stop = 0 }
 
 -- What an event leaves, of a command at a place after what st says: reading stops at a fault; goes on in the command; or goes on after
 -- it, but for END, where it stops after so many dwords.
-unfoldable pub afterEvent : State → ℕ → Event → Progress
-afterEvent st at (fault m s) = record { st = st; own = none; place = at + s; got = 0; stop = m }
-afterEvent st at (unfinished h g) = record { st = st; own = h; place = at; got = g; stop = 0 }
-afterEvent st at (passes h) =
+unfoldable pub afterChange : State → ℕ → Change → Progress
+afterChange st at (fault m s) = record { st = st; own = none; place = at + s; got = 0; stop = m }
+afterChange st at (unfinished h g) = record { st = st; own = h; place = at; got = g; stop = 0 }
+afterChange st at (passes h) =
     let k = kindIn st h in
     record { st = stateAfter k h st; own = none; place = at + totalIn st h; got = 0; stop = cond (eqb k 2) atEnd 0 }
 
@@ -92,7 +92,7 @@ unfoldable pub fitted : List ℕ → ℕ → List ℕ → List ℕ
 fitted r i ws = cond (ltb i (length r / 16)) (putWords set r i ws 16) r
 
 -- "Records are written as commands pass": the record buffer after an event
-unfoldable pub writtenBy : State → ℕ → Event → List ℕ → List ℕ
+unfoldable pub writtenBy : State → ℕ → Change → List ℕ → List ℕ
 writtenBy st at (fault m s) r = r
 writtenBy st at (unfinished h g) r = r
 writtenBy st at (passes h) r = fitted r (st .commands) (recordOf (whole st at h))
@@ -105,12 +105,12 @@ pub record Stage : Type 0 where
 abbrev pub stage : Progress → List ℕ → Stage
 stage c r = record { progress = c; records = r }
 
-abbrev pub byEvent : State → ℕ → Event → List ℕ → Stage
-byEvent st at e r = stage (afterEvent st at e) (writtenBy st at e r)
+abbrev pub byChange : State → ℕ → Change → List ℕ → Stage
+byChange st at e r = stage (afterChange st at e) (writtenBy st at e r)
 
 -- one dword, which changes nothing once reading has stopped
 unfoldable pub stepOn : Stage → ℕ → Stage
-stepOn s d = let c = s .progress in cond (eqb (c .stop) 0) (byEvent (c .st) (c .place) (eventOf c d) (s .records)) s
+stepOn s d = let c = s .progress in cond (eqb (c .stop) 0) (byChange (c .st) (c .place) (changeOf c d) (s .records)) s
 
 -- dwords one after the other
 unfoldable pub stageAfter : Stage → List ℕ → Stage

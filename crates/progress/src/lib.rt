@@ -5,7 +5,7 @@ ghost use lib.ListN.{length, take, drop};
 ghost use Rattle.command.specs.Order.{commandOf};
 ghost use Rattle.judge.specs.Refusals.{judgeOf};
 ghost use Rattle.record.specs.Record.{recordOf};
-ghost use Rattle.progress.specs.Steps.{kindIn, totalIn, unfinished, fault, settled, between, afterEvent, fitted, stage, byEvent};
+ghost use Rattle.progress.specs.Steps.{kindIn, totalIn, unfinished, fault, settled, between, afterChange, fitted, stage, byChange};
 ghost use Rattle.progress.specs.Steps.{passes as passing};
 ghost use Rattle.progress.specs.Parts.{gatheredIn, dwordsLeft, Counts};
 use command::State;
@@ -79,7 +79,7 @@ pub fn gather(h: [u32; 8], most: usize, g: usize, chunk: &[u32], from: usize, n:
 
 // Reading goes on in a command that stands at a place, with own dwords h, of which g dwords have come.
 pub fn hold(st: State, at: u32, h: [u32; 8], g: u32) -> Progress
-    ensures { λ r. ⌜ r ≡ afterEvent st at (unfinished h g) ⌝ }
+    ensures { λ r. ⌜ r ≡ afterChange st at (unfinished h g) ⌝ }
 {
     Progress {
         st,
@@ -93,7 +93,7 @@ pub fn hold(st: State, at: u32, h: [u32; 8], g: u32) -> Progress
 // Reading stopped at a refusal.
 pub fn halt(st: State, at: u32, number: u32, skip: u32) -> Progress
     requires { ⌜ at + skip < 2 ^ 32 ⌝ }
-    ensures { λ r. ⌜ r ≡ afterEvent st at (fault number skip) ⌝ }
+    ensures { λ r. ⌜ r ≡ afterChange st at (fault number skip) ⌝ }
 {
     Progress {
         st,
@@ -120,7 +120,7 @@ pub fn open(st: State, at: u32) -> Progress
 // A command that passes, of kind k, with own dwords h and t dwords in all: its record, where it fits, and what it sets.
 fn pass(st: State, at: u32, h: [u32; 8], k: u32, t: u32, records: &mut [u32]) -> Progress
     requires { ⌜ Counts st at × (k ≡ kindIn st h) × (t ≡ totalIn st h) ⌝ }
-    ensures { λ r. ⌜ stage r (now (records .exit)) ≡ byEvent st at (passing h) (now (records .entry)) ⌝ }
+    ensures { λ r. ⌜ stage r (now (records .exit)) ≡ byChange st at (passing h) (now (records .entry)) ⌝ }
 {
     write_record(records, k, h, at, t, st);
     let mut next = open(after(k, h, st), at + t);
@@ -143,7 +143,7 @@ fn judge(k: u32, t: u32, h: [u32; 8], st: State) -> Verdict
 // A command that has come whole, with own dwords h.
 pub fn settle(st: State, at: u32, h: [u32; 8], records: &mut [u32]) -> Progress
     requires { ⌜ Counts st at ⌝ }
-    ensures { λ r. ⌜ stage r (now (records .exit)) ≡ byEvent st at (settled st h) (now (records .entry)) ⌝ }
+    ensures { λ r. ⌜ stage r (now (records .exit)) ≡ byChange st at (settled st h) (now (records .entry)) ⌝ }
 {
     let chip = st.chip;
     let d = h[0];

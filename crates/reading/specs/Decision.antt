@@ -20,10 +20,11 @@ module _ {A : Type 0} (refused : ℕ → ℕ → A) (accepted : ℕ → ℕ → 
   atStop room commands (ended d) = cond (ltb room (16 * commands)) (refused 10 d) (accepted commands d)
 
   -- 1: "over 16,384 dwords (place 0)": the whole slice, before any command is read
+  abbrev pub atLimit : ℕ → ℕ → ℕ → Stop → A
+  atLimit dwords room commands stop = cond (ltb 16384 dwords) (refused 1 0) (atStop room commands stop)
+
   unfoldable pub decided : Target → ℕ → List ℕ → A
-  decided target room b =
-      cond (ltb 16384 (length b)) (refused 1 0)
-      (atStop room (length (readingOf target b .passed)) (readingOf target b .stop))
+  decided target room b = atLimit (length b) room (length (readingOf target b .passed)) (readingOf target b .stop)
 
 -- 17, "byte entry only: batch, then run, not a multiple of 4 bytes; checked first (place: its whole dwords)": what the refusal means is the
 -- argument, as above.

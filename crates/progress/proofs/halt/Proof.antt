@@ -1,5 +1,5 @@
 use mathlib.Core.Path.{refl}
-use Rattle.progress.specs.Steps.{afterEvent}
+use Rattle.progress.specs.Steps.{afterChange}
 use borrow.Author.Needs.{needs}
 use Rattle.progress.proofs.halt.Statement.{statement}
 use Rattle.progress.proofs.halt.Tie as tie
@@ -8,7 +8,7 @@ add-t6 : tie.Need-add-t6
 add-t6 c = search needs
 
 returns : tie.Need-returns
-unfolding afterEvent
+unfolding afterChange
 returns c = refl
 
 pub halt-spec : {M : Type 1} → statement M

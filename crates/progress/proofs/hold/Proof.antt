@@ -1,11 +1,11 @@
 use mathlib.Core.Path.{refl}
-use Rattle.progress.specs.Steps.{afterEvent}
+use Rattle.progress.specs.Steps.{afterChange}
 use borrow.Author.Needs.{needs}
 use Rattle.progress.proofs.hold.Statement.{statement}
 use Rattle.progress.proofs.hold.Tie as tie
 
 returns : tie.Need-returns
-unfolding afterEvent
+unfolding afterChange
 returns c = refl
 
 pub hold-spec : {M : Type 1} → statement M

@@ -19,7 +19,7 @@ use Rattle.batch.specs.Answers.{refusedAnswer, answerOf, recordsOf}
 use Rattle.progress.specs.Fitting.{writtenFit}
 use Rattle.feed.specs.declared.Carried.{Carried}
 use Rattle.feed.specs.declared.Fed.{Fed}
-use Rattle.feed.specs.Feeding.{fresh, Left, left, gives, Outcome, outcome, feedOf}
+use Rattle.feed.specs.Feeding.{fresh, Left, left, gives, Result, result, feedOf}
 
 -- a call: what it is given beside the carried state and the record buffer
 pub record Call : Type 0 where
@@ -32,7 +32,7 @@ abbrev pub call : ℕ → ℕ → List ℕ → Bool → Call
 call chip capacity chunk last = record { chip = chip; capacity = capacity; chunk = chunk; last = last }
 
 -- "each call given what the one before returned and left"
-abbrev pub made : Left → Call → Outcome
+abbrev pub made : Left → Call → Result
 made w c = feedOf (c .chip) (c .capacity) (w .carried) (c .chunk) (c .last) (w .records)
 
 abbrev pub leaves : Left → Call → Left
@@ -52,7 +52,7 @@ abbrev pub beforeLast : ℕ → ℕ → List (List ℕ) → List ℕ → Left
 beforeLast chip capacity chunks r = leavesAll (left fresh r) (calls chip capacity chunks)
 
 -- the last call after those, and what it leaves
-abbrev pub lastMade : ℕ → ℕ → List (List ℕ) → List ℕ → List ℕ → Outcome
+abbrev pub lastMade : ℕ → ℕ → List (List ℕ) → List ℕ → List ℕ → Result
 lastMade chip capacity chunks last r = made (beforeLast chip capacity chunks r) (call chip capacity last true)
 
 abbrev pub afterLast : ℕ → ℕ → List (List ℕ) → List ℕ → List ℕ → Left
@@ -116,12 +116,12 @@ Complete target b more = endWithin (length b) (readingOf target (b ++ more) .pas
 -- changes neither the carried state nor the record buffer; and so does every call after it
 abbrev pub Late : Carried → Type 0
 Late c = (chip capacity : ℕ) (chunk : List ℕ) (last : Bool) (r : List ℕ)
-    → feedOf chip capacity c chunk last r ≡ outcome (gives c (refusedAnswer 19 0)) r
+    → feedOf chip capacity c chunk last r ≡ result (gives c (refusedAnswer 19 0)) r
 
 -- what any call says, from whatever carried state: the last answers; 19 changes nothing; after an answer there is 19 alone
 pub record Said (w : Left) (c : Call) : Type 0 where
   pub last : c .last ≡ true → made w c .fed .more ≡ 0
-  pub refused : made w c .fed .answer .number ≡ 19 → made w c ≡ outcome (gives (w .carried) (refusedAnswer 19 0)) (w .records)
+  pub refused : made w c .fed .answer .number ≡ 19 → made w c ≡ result (gives (w .carried) (refusedAnswer 19 0)) (w .records)
   pub late : made w c .fed .more ≡ 0 → Late (made w c .fed .carried)
 
 -- calls of which none is the last
