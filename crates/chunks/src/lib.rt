@@ -14,7 +14,7 @@ use command::head::total;
 use command::states::after;
 use judge::Verdict;
 use judge::header_verdict;
-use judge::own_verdict;
+use judge::single_verdict;
 use judge::sound_object;
 use progress::Progress;
 use progress::gather;
@@ -186,7 +186,7 @@ fn advance_other(
             let none: [u8; 0] = [];
             let h = own_dwords(chunk, &none, i, k, d);
             let t = total(k, d);
-            match own_verdict(k, h, st) {
+            match single_verdict(k, h, st) {
                 Verdict::Fault { number, skip } => Reached { st, at, next: i },
                 Verdict::Passed => {
                     write_record(records, k, h, at, t, st);

@@ -230,6 +230,22 @@ pub fn own_verdict(k: u32, h: [u32; 8], st: State) -> Verdict
     }
 }
 
+// The same for one command by itself, as the chunked check asks. A second function, since the compiler lays the first one out inside the
+// first pass only while nobody else calls it.
+pub fn single_verdict(k: u32, h: [u32; 8], st: State) -> Verdict
+    ensures { λ r. ⌜ r ≡ ownVerdict k h st ⌝ }
+{
+    match k {
+        7 => object(h, st),
+        3 => vfe(h, st),
+        4 => curbe_load(h, st),
+        5 => descriptor_load(h, st),
+        6 => state_flush(h, st),
+        8 => gateway_state(h, st),
+        _ => Verdict::Passed,
+    }
+}
+
 // Does an OBJECT with own dwords h pass rows 6 to 9? One test for the must-be-zero bits of dwords 2 to 5, and one for dword 1: an index
 // below a count of at most 64 leaves no room for bits 7:6. Where the answer is no, `own_verdict` decides.
 pub fn sound_object(h: [u32; 8], st: State) -> bool

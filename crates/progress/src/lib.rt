@@ -14,7 +14,7 @@ use command::head::total;
 use command::states::after;
 use judge::Verdict;
 use judge::header_verdict;
-use judge::own_verdict;
+use judge::single_verdict;
 use record::words;
 use records::put;
 
@@ -136,7 +136,7 @@ fn judge(k: u32, t: u32, h: [u32; 8], st: State) -> Verdict
 {
     match header_verdict(k, h[0], t as usize) {
         Verdict::Fault { number, skip } => Verdict::Fault { number, skip },
-        Verdict::Passed => own_verdict(k, h, st),
+        Verdict::Passed => single_verdict(k, h, st),
     }
 }
 

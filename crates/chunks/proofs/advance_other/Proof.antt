@@ -29,8 +29,8 @@ own-dwords-requires c κs = let a = c .before .before .before .before .before .b
 total-requires : tie.Need-total-requires
 total-requires c κs = search needs
 
-own-verdict-requires : tie.Need-own-verdict-requires
-own-verdict-requires c κs = search needs
+single-verdict-requires : tie.Need-single-verdict-requires
+single-verdict-requires c κs = search needs
 
 enum-known-number-2 : tie.Need-enum-known-number-2
 enum-known-number-2 c = search needs
@@ -63,7 +63,7 @@ same-length : tie.Need-same-length
 same-length c = search needs
 
 returns-4 : tie.Need-returns-4
-returns-4 c = let a = c .before .before .before .before .before .before .before .before .before .before .before .before .before .before .before .before .before in here-kept _ _ _ _ (a .args .records .now) (a .pre .0) (a .pre .1) _ (a .pre .2) _ (a .pre .3) _ (c .before .before .before .before .before .before .before .before .before .before .before .before .before .«header-verdict» .ensures) (let m = c .before .before .before .before .before .before .before .before .before .before .before .before .match in let t = c .before .before .before .before .before .before .before .before .before .before .before .«enum-told» in search needs) _ _ _ _ _ (c .before .before .before .before .before .before .before .before .total .ensures) (c .before .before .before .before .before .before .before .before .before .«own-dwords» .ensures) (let i = c .before .before .before .before .before .before .before .before .before .before .before .before .before .before .if1 in search needs) (c .before .before .before .before .before .before .before .«own-verdict» .ensures) (let m = c .before .before .before .before .before .before .match2 in let t = c .before .before .before .before .before .«enum-told2» in search needs) (c .after .ensures) (c .before .before .before .«write-record» .ensures)
+returns-4 c = let a = c .before .before .before .before .before .before .before .before .before .before .before .before .before .before .before .before .before in here-kept _ _ _ _ (a .args .records .now) (a .pre .0) (a .pre .1) _ (a .pre .2) _ (a .pre .3) _ (c .before .before .before .before .before .before .before .before .before .before .before .before .before .«header-verdict» .ensures) (let m = c .before .before .before .before .before .before .before .before .before .before .before .before .match in let t = c .before .before .before .before .before .before .before .before .before .before .before .«enum-told» in search needs) _ _ _ _ _ (c .before .before .before .before .before .before .before .before .total .ensures) (c .before .before .before .before .before .before .before .before .before .«own-dwords» .ensures) (let i = c .before .before .before .before .before .before .before .before .before .before .before .before .before .before .if1 in search needs) (c .before .before .before .before .before .before .before .«single-verdict» .ensures) (let m = c .before .before .before .before .before .before .match2 in let t = c .before .before .before .before .before .«enum-told2» in search needs) (c .after .ensures) (c .before .before .before .«write-record» .ensures)
 
 pub advance-other-spec : {M : Type 1} → statement M
 advance-other-spec =
@@ -77,7 +77,7 @@ advance-other-spec =
     slice-aggregate-own-dwords
     own-dwords-requires
     total-requires
-    own-verdict-requires
+    single-verdict-requires
     enum-known-number-2
     enum-told-2
     write-record-requires

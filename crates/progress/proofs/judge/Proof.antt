@@ -15,8 +15,8 @@ enum-known-number c = search needs
 enum-told : tie.Need-enum-told
 enum-told c = search needs
 
-own-verdict-requires : tie.Need-own-verdict-requires
-own-verdict-requires c κs = search needs
+single-verdict-requires : tie.Need-single-verdict-requires
+single-verdict-requires c κs = search needs
 
 returns : tie.Need-returns
 returns c = search judges
@@ -32,6 +32,6 @@ judge-spec =
     header-verdict-requires
     enum-known-number
     enum-told
-    own-verdict-requires
+    single-verdict-requires
     returns
     returns-2)
