@@ -196,7 +196,7 @@ fn line([name, entry, size, library, second, limit, ratio]: [&str; 7]) {
 }
 
 fn in_parts([name, cells @ ..]: [&str; 9]) {
-    print!("| {name:<40} |");
+    print!("| {name:<38} |");
     for (cell, width) in cells.iter().zip([7, 6, 16, 5, 15, 5, 14, 5]) {
         print!(" {cell:>width$} |");
     }
