@@ -1,11 +1,11 @@
 -- What a turn of the loop over a chunk shows. Assumes nothing.
 use mathlib.Core.Path.{_≡_, refl, sym, ap, ap₂, subst, _∙_}
-use mathlib.Core.Bool.{Bool, true, false, cond, _&&_}
-use Prim.Native.Nat.{ℕ, zero, suc, _+_, _-_, _^_, _<_, _≤_}
+use mathlib.Core.Bool.{Bool, true, cond, _&&_}
+use Prim.Native.Nat.{ℕ, suc, _+_, _-_, _^_, _<_, _≤_}
 use native.Mathlib.Numerals.{add-one}
 use native.Mathlib.Omega.{arith}
-use mathlib.Core.List.{List, [], _∷_, _++_, append-nil}
-use lib.ListN.{length, getD, take, drop, set, length-drop, take-append-drop, drop-of-length-le}
+use mathlib.Core.List.{List, [], _∷_, append-nil}
+use lib.ListN.{length, getD, take, drop, length-drop, take-append-drop, drop-of-length-le}
 use lib.Seq.{drop-cons, drop-drop, take-all, length-take-le}
 use lib.Dec.{T, ltb, leb, eqb}
 use borrow.Author.Tests.{ltb-true, ltb-false, eq-eqb}
@@ -13,7 +13,7 @@ use Rattle.laws.proofs.Choices.{by-test}
 use Rattle.words.specs.Dwords.{dwordsIn}
 use Rattle.chips.specs.declared.Chip.{Chip}
 use Rattle.command.specs.declared.State.{State}
-use Rattle.command.specs.Kinds.{lengthAllowed, kindOf, totalOf, headOf, ownDwords, DwordsAt}
+use Rattle.command.specs.Kinds.{lengthAllowed, kindOf, totalOf, headOf, ownDwords}
 use Rattle.command.specs.Order.{commandOf, stateAfter}
 use Rattle.command.proofs.Order.{after-chip, after-commands, after-objects}
 use Rattle.judge.specs.declared.Verdict.{Verdict}
@@ -29,10 +29,10 @@ use Rattle.progress.specs.Steps.{kindIn, totalIn, alone, Change, fault, unfinis
 use Rattle.progress.specs.Parts.{gatheredIn, dwordsLeft, Counts}
 use Rattle.progress.specs.Sound.{Sound}
 use Rattle.progress.proofs.Gathers.{gatheredAll, gathered-in, total-all}
-use Rattle.progress.proofs.Runs.{Run, ran, run, runFrom, run-step, run-stopped, held, run-held, run-whole, run-refused, gathers, run-short, run-command, settled-is}
+use Rattle.progress.proofs.Runs.{ran, run, runFrom, run-step, run-stopped, held, run-held, run-whole, run-refused, gathers, run-short, run-command, settled-is}
 use Rattle.progress.proofs.Stages.{stage-stays, stage-event, stage-same}
 use Rattle.progress.proofs.Fold.{number-on}
-use Rattle.chunks.specs.Turns.{Ready, leavesFrom, Kept, Went, Begins}
+use Rattle.chunks.specs.Turns.{Ready, leavesFrom, Kept, Went}
 use Rattle.progress.proofs.Leaves.{skip-small, pass-on}
 
 -- how many dwords have been read up to dword i of the chunk, at most

@@ -4,13 +4,11 @@ use mathlib.Core.List.{List}
 use Prim.Native.Nat.{ℕ, _+_, _-_, _<_, _≤_}
 use lib.ListN.{length, getD, drop}
 use Rattle.chips.specs.declared.Chip.{Chip}
-use Rattle.command.specs.declared.State.{State}
 use Rattle.command.specs.Kinds.{kindOf, totalOf}
-use Rattle.judge.specs.declared.Verdict.{Verdict}
 use Rattle.judge.specs.declared.Verdict.the-variants.{Passed}
 use Rattle.judge.specs.Refusals.{headerVerdict}
 use Rattle.progress.specs.declared.Progress.{Progress}
-use Rattle.progress.specs.Steps.{between, Stage, stage, stageAfter}
+use Rattle.progress.specs.Steps.{Stage, stage, stageAfter}
 use Rattle.progress.specs.Sound.{Sound}
 
 -- the dwords l, all among the first 16,384 of the batch, can be read from dword i on

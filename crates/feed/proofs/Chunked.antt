@@ -2,20 +2,20 @@
 use mathlib.Core.Path.{_≡_, refl, sym, ap, ap₂, subst, _∙_}
 use mathlib.Core.Logic.{_⊎_, inl, inr}
 use mathlib.Core.Bool.{Bool, true, false, cond, _&&_, _||_}
-use Prim.Native.Nat.{ℕ, _+_, _-_, _*_, _/_, _<_, _≤_}
+use Prim.Native.Nat.{ℕ, _+_, _-_, _*_, _≤_}
 use native.Mathlib.Omega.{arith}
 use mathlib.Core.List.{List, [], _∷_, _++_, append-assoc, append-nil}
 use lib.ListN.{length, getD, take, drop, take-append-drop}
 use lib.Seq.{take-append-seam, drop-append-seam}
-use lib.Dec.{T, ltb, leb, eqb}
-use borrow.Author.Tests.{le-leb, leb-true, ltb-false, eq-eqb, ne-eqb, eqb-true, eqb-false}
-use Rattle.laws.proofs.Choices.{by-test, and-left, and-right}
+use lib.Dec.{ltb, leb, eqb}
+use borrow.Author.Tests.{le-leb, leb-true, ltb-false, eq-eqb, ne-eqb, eqb-false}
+use Rattle.laws.proofs.Choices.{by-test, and-left}
 use Rattle.chips.specs.declared.Chip.{Chip}
 use Rattle.chips.specs.declared.Target.{Target}
-use Rattle.chips.specs.Chips.{numberOf, targetOf, onChip, Unnamed, ForChip, ByChip, ofNone, ofChip}
+use Rattle.chips.specs.Chips.{numberOf, targetOf, Unnamed, ForChip, ByChip, ofNone, ofChip}
 use Rattle.chips.proofs.Chips.{on-named, on-none, by-either, same-number}
 use Rattle.command.specs.Order.{Command}
-use Rattle.reading.specs.Reading.{Stop, ended, stopped, Reading, readingOf}
+use Rattle.reading.specs.Reading.{Stop, ended, stopped, Reading}
 use Rattle.reading.specs.Decision.{atStop}
 use Rattle.reading.specs.Isolation.{Alike}
 use Rattle.reading.specs.Vfes.{noCommand}
@@ -24,16 +24,15 @@ use Rattle.batch.specs.declared.Answer.{Answer}
 use Rattle.batch.specs.Answers.{refusedAnswer, acceptedAnswer, answerFor, recordsFor, answerOf, recordsOf}
 use Rattle.batch.proofs.Isolation.{alike-answer}
 use Rattle.progress.specs.declared.Progress.{Progress}
-use Rattle.progress.specs.Steps.{Stage, stage, stageAfter, stopBy, atEnd}
+use Rattle.progress.specs.Steps.{Stage, stage, stopBy, atEnd}
 use Rattle.progress.specs.Fitting.{writtenFit}
 use Rattle.progress.proofs.Stages.{stage-stays, stage-run}
 use Rattle.progress.proofs.Fitted.{written-length, written-other, written-at}
 use Rattle.progress.proofs.Stops.{stopRead, stop-kept, stop-same}
 use Rattle.feed.specs.declared.Carried.{Carried}
-use Rattle.feed.specs.declared.Fed.{Fed}
-use Rattle.feed.specs.Feeding.{fresh, resumed, carriedBy, Taken, Left, left, leftBy, chunkTaken, refusedBy, afterChunk, answerAt, isStop, usable, saysMore, gives, answered, fedOf, Result, result, feedOf}
+use Rattle.feed.specs.Feeding.{fresh, resumed, carriedBy, Taken, Left, left, leftBy, chunkTaken, refusedBy, afterChunk, answerAt, usable, saysMore, gives, answered, fedOf, Result, result, feedOf}
 use Rattle.feed.specs.Counting.{dwordsAfter}
-use Rattle.feed.specs.Claims.{Call, call, made, leaves, leavesAll, calls, beforeLast, lastMade, afterLast, joined, endWithin, keptIn, recordsKept, Words, Cut, Earlier, Late, Said, NotLast, Unread, Numbered, SameCut, cutAt, lastOf, lengthsOf, chunksOf, Throughout, Guards, Chunked}
+use Rattle.feed.specs.Claims.{Call, call, made, leaves, leavesAll, calls, beforeLast, lastMade, afterLast, joined, endWithin, keptIn, recordsKept, Words, Cut, Earlier, Late, Said, NotLast, Unread, Numbered, SameCut, cutAt, lastOf, lengthsOf, chunksOf, Throughout, Chunked}
 use Rattle.feed.proofs.Counting.{take-chunk}
 use Rattle.feed.proofs.Feeds.{usable-answered, usable-open, usable-few, usable-rest-on}
 use Rattle.feed.proofs.Within.{complete}

@@ -1,16 +1,16 @@
 -- A chunk dword by dword: those that are read, and how many have come. Assumes nothing.
-use mathlib.Core.Path.{_≡_, refl, sym, ap, ap₂, _∙_}
-use mathlib.Core.Bool.{Bool, true, false, cond}
+use mathlib.Core.Path.{_≡_, sym, ap, ap₂, _∙_}
+use mathlib.Core.Bool.{cond}
 use Prim.Native.Nat.{ℕ, zero, suc, _+_, _-_, _<_, _≤_}
 use native.Mathlib.Omega.{arith}
-use mathlib.Core.List.{List, [], _∷_, _++_}
+use mathlib.Core.List.{List, [], _∷_}
 use lib.ListN.{length, take}
-use lib.Seq.{take-all, length-take-le}
+use lib.Seq.{take-all}
 use lib.Dec.{ltb, leb}
 use borrow.Author.Tests.{lt-ltb, le-ltb, ltb-true, ltb-false, le-leb, lt-leb, leb-true, leb-false}
 use Rattle.laws.proofs.Choices.{by-test}
 use Rattle.progress.specs.Steps.{Stage, stepOn, stageAfter}
-use Rattle.feed.specs.Feeding.{Taken, taken, takeDword, takeChunk}
+use Rattle.feed.specs.Feeding.{taken, takeDword, takeChunk}
 use Rattle.feed.specs.Counting.{readCount, dwordsAfter}
 
 module _ (s n : ℕ) where

@@ -1,24 +1,24 @@
 -- Every way of cutting a batch gives the whole batch's answer and records. Assumes nothing.
 use mathlib.Core.Path.{_≡_, refl, sym, ap, ap₂, subst, _∙_}
 use mathlib.Core.Bool.{Bool, true, false, cond, _&&_, _||_}
-use Prim.Native.Nat.{ℕ, zero, suc, _+_, _-_, _*_, _/_, _<_, _≤_}
+use Prim.Native.Nat.{ℕ, zero, suc, _+_, _-_, _≤_}
 use native.Mathlib.Omega.{arith}
-use mathlib.Core.List.{List, [], _∷_, _++_, append-assoc, append-nil}
-use lib.ListN.{length, getD, take, drop, set, length-append, length-take}
+use mathlib.Core.List.{List, [], _∷_, _++_}
+use lib.ListN.{length, take, set, length-append, length-take}
 use lib.Seq.{take-all}
-use lib.Dec.{T, ltb, leb, eqb}
-use borrow.Author.Tests.{lt-ltb, le-ltb, ltb-true, ltb-false, le-leb, eq-eqb, ne-eqb, eqb-true, eqb-false}
+use lib.Dec.{ltb, leb, eqb}
+use borrow.Author.Tests.{lt-ltb, ltb-true, ltb-false, le-leb, eq-eqb, ne-eqb, eqb-true}
 use Rattle.laws.proofs.Choices.{by-test}
 use Rattle.chips.specs.declared.Chip.{Chip}
 use Rattle.chips.specs.declared.Target.{Target}
 use Rattle.command.specs.declared.State.{State}
 use Rattle.command.specs.Order.{Command, standsSince, countLoaded, stateInForce, vfeInForce, objectCount, stateOf, stateAfter}
 use Rattle.command.proofs.Order.{after-chip, state-chip, state-capacity}
-use Rattle.reading.specs.Reading.{Stop, Reading, readingOf}
+use Rattle.reading.specs.Reading.{Reading, readingOf}
 use Rattle.reading.specs.Decision.{atStop, decided}
 use Rattle.reading.proofs.Decided.{by-decided}
 use Rattle.reading.proofs.Decisions.{map-decided}
-use Rattle.records.specs.Records.{written, recorded}
+use Rattle.records.specs.Records.{recorded}
 use Rattle.batch.specs.declared.Answer.{Answer}
 use Rattle.batch.specs.Answers.{refusedAnswer, acceptedAnswer, recordedIn, answerFor, recordsFor}
 use Rattle.progress.specs.declared.Progress.{Progress}
@@ -30,10 +30,9 @@ use Rattle.progress.proofs.Stages.{stage-append, stage-run, run-kept, run-comma
 use Rattle.progress.proofs.Fitted.{written-length, written-room}
 use Rattle.progress.proofs.Fold.{beginningOf, readBy, fold-reading, fold-sound}
 use Rattle.progress.proofs.Stops.{stopRead, stop-kept}
-use Rattle.feed.specs.declared.Carried.{Carried}
-use Rattle.feed.specs.Feeding.{fresh, resumed, carriedBy, Taken, taken, takeChunk, Left, left, leftBy, chunkTaken, answerAt, isStop, readOf, goesOn, usable}
+use Rattle.feed.specs.Feeding.{fresh, resumed, carriedBy, Left, left, leftBy, chunkTaken, answerAt, isStop, readOf, goesOn, usable}
 use Rattle.feed.specs.Counting.{dwordsAfter}
-use Rattle.feed.specs.Claims.{endWithin, keptIn}
+use Rattle.feed.specs.Claims.{keptIn}
 use Rattle.feed.proofs.Counting.{take-chunk}
 use Rattle.feed.proofs.Within.{within}
 

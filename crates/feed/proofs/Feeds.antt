@@ -3,7 +3,7 @@ use mathlib.Core.Path.{_≡_, refl, sym, ap, ap₂, subst, _∙_}
 use mathlib.Core.Bool.{Bool, true, false, cond, _&&_, _||_}
 use Prim.Native.Nat.{ℕ, _+_, _-_, _*_, _/_, _<_, _≤_}
 use native.Mathlib.Omega.{arith}
-use mathlib.Core.List.{List, []}
+use mathlib.Core.List.{List}
 use lib.ListN.{length, take}
 use lib.Seq.{length-take-le}
 use lib.Dec.{ltb, leb, eqb}
@@ -25,7 +25,7 @@ use Rattle.command.specs.declared.State.{State}
 use Rattle.feed.specs.declared.Order.{Order}
 use Rattle.feed.specs.declared.Carried.{Carried}
 use Rattle.feed.specs.declared.Fed.{Fed}
-use Rattle.feed.specs.Feeding.{stateBy, orderBy, resumed, carriedBy, Taken, taken, takeChunk, Left, left, leftBy, chunkTaken, refusedBy, afterChunk, answerAt, isStop, readOf, goesOn, usable, gives, answered, fedOf, lateFed, Result, result, feedOf}
+use Rattle.feed.specs.Feeding.{stateBy, orderBy, resumed, carriedBy, taken, Left, left, leftBy, chunkTaken, refusedBy, afterChunk, answerAt, isStop, readOf, goesOn, usable, gives, answered, fedOf, lateFed, result, feedOf}
 use Rattle.feed.specs.Counting.{readCount, dwordsAfter}
 use Rattle.feed.proofs.Counting.{read-few, read-take, take-chunk}
 

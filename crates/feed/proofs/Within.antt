@@ -6,7 +6,7 @@ use native.Mathlib.Omega.{arith}
 use mathlib.Core.List.{List, [], _∷_, _++_}
 use lib.ListN.{length, take, length-take}
 use lib.Seq.{take-append-seam}
-use lib.Dec.{ltb, leb, eqb}
+use lib.Dec.{ltb, eqb}
 use borrow.Author.Tests.{le-leb, lt-leb, ltb-true, ltb-false}
 use Rattle.laws.proofs.Choices.{by-test}
 use Rattle.chips.specs.declared.Target.{Target}
@@ -17,7 +17,7 @@ use Rattle.judge.specs.declared.Verdict.{Verdict}
 use Rattle.judge.specs.declared.Verdict.the-variants.{Fault, Passed}
 use Rattle.judge.specs.Refusals.{judgeOf, headerVerdict, ownVerdict}
 use Rattle.judge.proofs.Judged.{total-pos}
-use Rattle.reading.specs.Reading.{ended, Reading, reading, andThen, readingOf, afterVerdict, commandAt}
+use Rattle.reading.specs.Reading.{ended, Reading, reading, andThen, readingOf, afterVerdict}
 use Rattle.reading.specs.Turns.{walk, here}
 use Rattle.reading.proofs.Walk.{reading-walk}
 use Rattle.progress.proofs.Runs.{head-part}

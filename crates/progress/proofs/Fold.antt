@@ -1,34 +1,33 @@
 -- The reading dword by dword is the reading of the whole list. Assumes nothing.
 use mathlib.Core.Path.{_≡_, refl, sym, ap, ap₂, subst, _∙_}
 use mathlib.Core.Bool.{Bool, true, false, cond, not, _&&_}
-use Prim.Native.Nat.{ℕ, zero, suc, _+_, _-_, _<_, _≤_}
+use Prim.Native.Nat.{ℕ, zero, suc, _+_, _<_, _≤_}
 use native.Mathlib.Nat.{add-zero}
 use native.Mathlib.Omega.{arith}
 use mathlib.Core.List.{List, [], _∷_}
-use lib.ListN.{length, getD, drop, length-drop}
+use lib.ListN.{length, drop, length-drop}
 use lib.Dec.{T, ltb, leb, eqb}
-use borrow.Author.Tests.{lt-ltb, le-ltb, ltb-true, ltb-false, ne-eqb, eq-eqb, eqb-true, eqb-false}
+use borrow.Author.Tests.{lt-ltb, le-ltb, ltb-true, ltb-false, ne-eqb, eqb-true}
 use Rattle.laws.proofs.Choices.{by-test}
 use Rattle.chips.specs.declared.Target.{Target}
 use Rattle.command.specs.declared.State.{State}
 use Rattle.command.specs.Kinds.{noKind, lengthField, lengthAllowed, kindOf, totalOf, headOf}
 use Rattle.command.specs.Fields.{dword}
-use Rattle.command.specs.Order.{Command, commandOf, stateOf, stateAfter, objectCount}
+use Rattle.command.specs.Order.{Command, stateOf, stateAfter, objectCount}
 use Rattle.command.proofs.Order.{after-commands, after-objects}
 use Rattle.judge.specs.declared.Verdict.{Verdict}
 use Rattle.judge.specs.declared.Verdict.the-variants.{Fault, Passed}
 use Rattle.judge.specs.Refusals.{judgeOf, headerVerdict, ownVerdict}
-use Rattle.judge.proofs.Judged.{judge-own, judge-header, header-fits, total-pos, inRange, fault-number}
-use Rattle.reading.specs.declared.Turn.{Turn}
-use Rattle.reading.specs.declared.Turn.the-variants.{Refused, Last, Next}
-use Rattle.reading.specs.Reading.{Stop, ended, stopped, Reading, reading, readingOf, byVerdict}
+use Rattle.judge.proofs.Judged.{judge-own, judge-header, total-pos, inRange, fault-number}
+use Rattle.reading.specs.declared.Turn.the-variants.{Last, Next}
+use Rattle.reading.specs.Reading.{ended, stopped, Reading, reading, readingOf}
 use Rattle.reading.specs.Turns.{turned, turnOf, walk, here}
 use Rattle.reading.proofs.Walk.{reading-walk, then, walk-turn}
 use Rattle.reading.proofs.Scans.{grown}
 use Rattle.progress.specs.declared.Progress.{Progress}
-use Rattle.progress.specs.Steps.{kindIn, totalIn, none, Change, fault, unfinished, passes, judged, between, atEnd, afterChange, whole, stopBy, stopOf}
+use Rattle.progress.specs.Steps.{none, fault, passes, judged, between, atEnd, afterChange, whole, stopBy, stopOf}
 use Rattle.progress.specs.Sound.{Sound}
-use Rattle.progress.proofs.Runs.{Run, ran, passing, andThen, run, runFrom, run-stopped, held, run-refused, run-short, run-command}
+use Rattle.progress.proofs.Runs.{Run, ran, andThen, run, runFrom, run-stopped, held, run-refused, run-short, run-command}
 
 -- what is read, if these are all the dwords that come
 abbrev pub readBy : Run → Reading

@@ -1,17 +1,17 @@
 -- The own dwords of a command, gathered one by one. Assumes nothing.
 use mathlib.Core.Path.{_≡_, refl, sym, ap, ap₂, _∙_}
 use mathlib.Core.Bool.{Bool, true, false, cond}
-use Prim.Native.Nat.{ℕ, suc, _+_, _≤_, _<_}
+use Prim.Native.Nat.{ℕ, suc, _+_, _≤_}
 use native.Mathlib.Omega.{arith}
 use mathlib.Core.List.{List, [], _∷_, _++_, append-nil, append-assoc}
 use lib.ListN.{length, getD, set, length-append, List·getD-append}
 use lib.Seq.{getD-set-other}
-use lib.Dec.{ltb, eqb}
-use borrow.Author.Tests.{ltb-true, ltb-false}
+use lib.Dec.{ltb}
+use borrow.Author.Tests.{ltb-false}
 use Rattle.command.specs.declared.State.{State}
-use Rattle.command.specs.Kinds.{isMedia, lengthOf, kindOf, totalOf, headOf, ownDwords}
+use Rattle.command.specs.Kinds.{kindOf, totalOf, headOf, ownDwords}
 use Rattle.command.proofs.Heads.{head-same}
-use Rattle.progress.specs.Steps.{kindIn, totalIn, none, alone, gathered}
+use Rattle.progress.specs.Steps.{kindIn, totalIn, alone, gathered}
 use Rattle.progress.specs.Parts.{gatheredIn}
 
 -- the own dwords h after several dwords more, where g of the command have come before them

@@ -1,16 +1,16 @@
 -- Dwords one after the other: the commands that pass, and how far reading comes. Several dwords at once. Assumes nothing.
-use mathlib.Core.Path.{_≡_, refl, sym, ap, ap₂, subst, _∙_}
-use mathlib.Core.Bool.{Bool, true, false, cond}
+use mathlib.Core.Path.{_≡_, refl, sym, ap, ap₂, _∙_}
+use mathlib.Core.Bool.{Bool, cond}
 use Prim.Native.Nat.{ℕ, zero, suc, _+_, _-_, _<_, _≤_}
 use native.Mathlib.Omega.{arith}
 use mathlib.Core.List.{List, [], _∷_, _++_, append-nil}
-use lib.ListN.{length, getD, take, drop, set, take-append-drop}
+use lib.ListN.{length, getD, take, drop, take-append-drop}
 use lib.Seq.{length-take-le}
 use lib.Dec.{ltb, eqb}
 use borrow.Author.Tests.{lt-ltb, le-ltb, ltb-true, ltb-false, eq-eqb, ne-eqb}
 use Rattle.laws.proofs.Choices.{by-test}
 use Rattle.command.specs.declared.State.{State}
-use Rattle.command.specs.Kinds.{kindOf, totalOf, headOf, ownDwords}
+use Rattle.command.specs.Kinds.{kindOf, totalOf, headOf}
 use Rattle.command.specs.Order.{Command}
 use Rattle.command.proofs.Heads.{head-same}
 use Rattle.judge.specs.declared.Verdict.{Verdict}
@@ -18,7 +18,7 @@ use Rattle.judge.specs.declared.Verdict.the-variants.{Fault, Passed}
 use Rattle.judge.specs.Refusals.{judgeOf, headerVerdict}
 use Rattle.judge.proofs.Judged.{own-in-total, total-pos}
 use Rattle.progress.specs.declared.Progress.{Progress}
-use Rattle.progress.specs.Steps.{kindIn, totalIn, alone, gathered, Change, fault, unfinished, passes, judged, settled, come, begun, beginning, changeOf, between, afterChange, whole}
+use Rattle.progress.specs.Steps.{totalIn, alone, gathered, Change, fault, unfinished, passes, judged, settled, come, begun, beginning, changeOf, between, afterChange, whole}
 use Rattle.progress.specs.Parts.{dwordsLeft}
 use Rattle.progress.proofs.Gathers.{gatheredAll, first-head, gather-all, total-kept}
 

@@ -6,14 +6,14 @@ use native.Mathlib.Omega.{arith}
 use mathlib.Core.List.{List, [], _∷_, _++_}
 use lib.ListN.{length}
 use lib.Dec.{eqb}
-use borrow.Author.Tests.{ne-eqb, eqb-true, eqb-false}
+use borrow.Author.Tests.{ne-eqb, eqb-false}
 use Rattle.laws.proofs.Choices.{by-test}
 use Rattle.command.specs.declared.State.{State}
 use Rattle.command.specs.Order.{Command, stateAfter}
 use Rattle.progress.specs.declared.Progress.{Progress}
 use Rattle.progress.specs.Steps.{Change, fault, unfinished, passes, changeOf, afterChange, writtenBy, Stage, stage, byChange, stepOn, stageAfter}
 use Rattle.progress.specs.Fitting.{writtenFit}
-use Rattle.progress.proofs.Runs.{Run, ran, passing, run, runFrom, run-stopped}
+use Rattle.progress.proofs.Runs.{Run, ran, passing, run, runFrom}
 
 pub stage-append : (x y : List ℕ) (s : Stage) → stageAfter s (x ++ y) ≡ stageAfter (stageAfter s x) y
 unfolding stageAfter

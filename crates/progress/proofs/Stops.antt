@@ -1,9 +1,8 @@
 -- How reading can stop: at a refusal of rows 3 to 9, or at END. Assumes nothing.
-use mathlib.Core.Path.{_≡_, refl, sym, ap, subst, _∙_}
+use mathlib.Core.Path.{_≡_, refl, sym, subst}
 use mathlib.Core.Bool.{Bool, true, false, cond, _&&_, _||_}
 use Prim.Native.Nat.{ℕ, _+_}
 use mathlib.Core.List.{List, [], _∷_}
-use lib.ListN.{getD}
 use lib.Dec.{T, ltb, leb, eqb}
 use Rattle.laws.proofs.Choices.{by-test}
 use Rattle.command.specs.declared.State.{State}

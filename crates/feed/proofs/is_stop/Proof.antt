@@ -1,5 +1,4 @@
 use Rattle.feed.proofs.Feeds.{stop-laws}
-use borrow.Author.Needs.{needs}
 use Rattle.feed.proofs.is_stop.Statement.{statement}
 use Rattle.feed.proofs.is_stop.Tie as tie
 

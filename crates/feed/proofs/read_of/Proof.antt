@@ -1,5 +1,4 @@
 use Rattle.laws.proofs.Tests.{tests}
-use borrow.Author.Needs.{needs}
 use Rattle.feed.proofs.read_of.Statement.{statement}
 use Rattle.feed.proofs.read_of.Tie as tie
 

@@ -1,6 +1,5 @@
 use mathlib.Core.Path.{refl}
 use Rattle.progress.specs.Steps.{afterChange}
-use borrow.Author.Needs.{needs}
 use Rattle.progress.proofs.hold.Statement.{statement}
 use Rattle.progress.proofs.hold.Tie as tie
 
