@@ -560,6 +560,8 @@ chunked =
             last = cut-last;
             each = cut-each;
             throughout = cut-throughout;
+            noneBetween = tt;
+            oneMore = λ c cs e h. (e, h);
             complete = complete;
           };
     }

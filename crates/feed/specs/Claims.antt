@@ -177,6 +177,9 @@ pub record Guards : Type 0 where
   pub last : (chunks : List (List ℕ)) (last : List ℕ) → lastOf (lengthsOf chunks) (joined chunks last) ≡ last
   pub each : (chip capacity : ℕ) (chunks : List (List ℕ)) → chunksOf (calls chip capacity chunks) ≡ chunks
   pub throughout : (chip capacity : ℕ) (chunks : List (List ℕ)) → Throughout chip capacity (calls chip capacity chunks)
+  -- what `Unread` lets come between: any calls of which none is the last
+  pub noneBetween : NotLast []
+  pub oneMore : (c : Call) (cs : List Call) → c .last ≡ false → NotLast cs → NotLast (c ∷ cs)
   -- which commands are complete is said of what has come: no dword that comes later changes it
   pub complete : (target : Target) (b more : List ℕ) → Complete target b more
 

@@ -74,7 +74,7 @@ atEnd = 255
 abbrev pub between : State → ℕ → Progress
 between st at = record { st = st; own = none; place = at; got = 0; stop = 0 }
 
--- What an event leaves, of a command at a place after what st says: reading stops at a fault; goes on in the command; or goes on after
+-- What a change leaves, of a command at a place after what st says: reading stops at a fault; goes on in the command; or goes on after
 -- it, but for END, where it stops after so many dwords.
 unfoldable pub afterChange : State → ℕ → Change → Progress
 afterChange st at (fault m s) = record { st = st; own = none; place = at + s; got = 0; stop = m }
@@ -91,7 +91,7 @@ whole st at h = commandOf (kindIn st h) at (totalIn st h) h st
 unfoldable pub fitted : List ℕ → ℕ → List ℕ → List ℕ
 fitted r i ws = cond (ltb i (length r / 16)) (putWords set r i ws 16) r
 
--- "Records are written as commands pass": the record buffer after an event
+-- "Records are written as commands pass": the record buffer after a change
 unfoldable pub writtenBy : State → ℕ → Change → List ℕ → List ℕ
 writtenBy st at (fault m s) r = r
 writtenBy st at (unfinished h g) r = r
