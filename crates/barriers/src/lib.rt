@@ -1,4 +1,6 @@
 // The barriers: who waits at each, and the messages that barriers are for.
+#![tactic(auto)]
+
 ghost use Rattle.std.specs.Prelude.{◌≡◌, ◌/◌, ◌%◌, ◌^◌, ◌≤◌, ◌<◌, eqb, length};
 ghost use Rattle.event.specs.Groups.{Grouped};
 ghost use Rattle.event.specs.Outcomes.{outcome_of};

@@ -1,4 +1,6 @@
 // The batch check: a pass that decides and writes nothing, then a pass that writes the records.
+#![tactic(auto)]
+
 ghost use Rattle.std.specs.Prelude.{◌≡◌};
 ghost use Rattle.batch.specs.Answers.{refused_answer, accepted_answer, answer_by};
 ghost use Rattle.batch.specs.Answers.{answer_for, records_for, bytes_answer_for, bytes_records_for};
@@ -10,7 +12,7 @@ use records::fill;
 
 // Number 0: accepted, with the commands and dwords read, and place 0. Else the refusal's number and place, and no commands and dwords.
 #[repr(C)]
-#[derive(Drop)]
+#[derive(Clone, Copy)]
 pub struct Answer {
     pub number: u64,
     pub place: u64,

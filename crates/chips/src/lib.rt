@@ -1,22 +1,24 @@
 // The chip that a batch is for.
+#![tactic(auto)]
+
 ghost use Rattle.std.specs.Prelude.{◌≡◌};
 ghost use Rattle.chips.specs.Chips.{named_by};
 
-#[derive(Drop)]
+#[derive(Clone, Copy)]
 pub enum Chip {
     Gen6,
     Gen7,
 }
 
 // What a caller's number names.
-#[derive(Drop)]
+#[derive(Clone, Copy)]
 pub enum Named {
     Unknown,
     Known { chip: Chip },
 }
 
 // What a batch is judged for: the chip, and the capacity lent, in rows.
-#[derive(Drop)]
+#[derive(Clone, Copy)]
 pub struct Target {
     pub chip: Chip,
     pub capacity: u32,

@@ -1,4 +1,6 @@
 // A chunk of a batch, read on from where the reading has come to.
+#![tactic(auto)]
+
 ghost use Rattle.std.specs.Prelude.{◌≡◌, true, ◌+◌, ◌-◌, ◌<◌, ◌≤◌, length, get_or, take, drop};
 ghost use Rattle.command.specs.Kinds.{kind_of, total_of, own_dwords};
 ghost use Rattle.judge.specs.declared.Verdict.TheVariants.{Passed};
@@ -19,7 +21,7 @@ use progress::{
 use reading::repeated;
 
 // A turn: how far the reading has come, and the next dword of the chunk.
-#[derive(Drop)]
+#[derive(Clone, Copy)]
 pub struct Turned {
     pub progress: Progress,
     pub next: usize,
@@ -157,7 +159,7 @@ fn first(st: State, at: u32, chunk: &[u32], i: usize, records: &mut [u32]) -> Tu
 }
 
 // How far whole commands that pass lead: what they set, the place after them, and the next dword of the chunk.
-#[derive(Drop)]
+#[derive(Clone, Copy)]
 pub struct Reached {
     pub st: State,
     pub at: u32,
@@ -412,7 +414,7 @@ fn run(chunk: &[u32], at: usize, from: Progress, records: &mut [u32]) -> Progres
 }
 
 // A chunk, and the place in it: "a reader that keeps its place in the caller's slice for the length of a call".
-#[derive(Drop)]
+#[derive(Clone, Copy)]
 pub struct Reader<'a> {
     pub chunk: &'a [u32],
     pub at: usize,

@@ -1,4 +1,6 @@
 // One command: its kind, its own dwords, and what it sets for those after it.
+#![tactic(auto)]
+
 pub mod head;
 pub mod states;
 
@@ -6,7 +8,7 @@ use chips::Chip;
 
 // What the batch is judged for, the chip and the capacity in rows, and what the commands before a command have set. The flag is 1 or 0:
 // bools, whose bytes are stored one by one and loaded as one word, held up the loop.
-#[derive(Drop)]
+#[derive(Clone, Copy)]
 pub struct State {
     pub chip: Chip,
     pub capacity: u32,

@@ -1,10 +1,12 @@
 // One event of a recording: its bytes 0 to 15, and its outcome by the rules.
+#![tactic(auto)]
+
 pub mod form;
 pub mod heads;
 pub mod outcomes;
 
 // What an event's bytes 0 to 15 say.
-#[derive(Drop)]
+#[derive(Clone, Copy)]
 pub struct Head {
     pub kind: u32,
     pub sender: usize,
@@ -27,7 +29,7 @@ pub struct Head {
 }
 
 // What the recording's header says of every event: how many threads, bypass, and each thread's barrier group.
-#[derive(Drop)]
+#[derive(Clone, Copy)]
 pub struct Setup {
     pub threads: usize,
     pub bypass: u32,
@@ -36,7 +38,7 @@ pub struct Setup {
 
 // A thread's gateway: "open or closed, with base, size and key". All are 0 where it is closed; `live` is 1 where it is open.
 #[repr(C)]
-#[derive(Drop)]
+#[derive(Clone, Copy)]
 pub struct Gateway {
     pub live: u32,
     pub base: u32,

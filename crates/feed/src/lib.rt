@@ -1,4 +1,6 @@
 // The batch check fed chunk by chunk, with a small state carried between calls.
+#![tactic(auto)]
+
 ghost use Rattle.std.specs.Prelude.{◌≡◌, ◌+◌, ◌^◌, ◌<◌, true};
 ghost use Rattle.feed.specs.Feeding.{state_by, order_by, resumed, carried_by, is_stop, read_of, goes_on, usable, refused_by};
 ghost use Rattle.feed.specs.Feeding.{left, chunk_taken, after_chunk, answer_at, answered, fed_of, late_fed, result, feed_of};
@@ -13,7 +15,7 @@ use progress::{Progress, left_of};
 
 // What the rules of order need of the commands passed: as in `State`.
 #[repr(C)]
-#[derive(Drop)]
+#[derive(Clone, Copy)]
 pub struct Order {
     pub earlier_vfe: u32,
     pub vfe_in_force: u32,
@@ -29,7 +31,7 @@ pub struct Order {
 
 // What is carried from call to call, numbers alone; all zero before the first chunk.
 #[repr(C)]
-#[derive(Drop)]
+#[derive(Clone, Copy)]
 pub struct Carried {
     // 1: an answer was given
     pub answered: u32,
@@ -45,7 +47,7 @@ pub struct Carried {
 
 // What a call gives back. `more` is 1 where the chunk was taken and is not the last, with an answer of zeros; else it is 0.
 #[repr(C)]
-#[derive(Drop)]
+#[derive(Clone, Copy)]
 pub struct Fed {
     pub carried: Carried,
     pub more: u64,

@@ -1,4 +1,6 @@
 // A forward: its bytes, its notification and its acknowledgement.
+#![tactic(auto)]
+
 ghost use Rattle.std.specs.Prelude.{◌≡◌, ◌≤◌};
 ghost use Rattle.event.specs.Gateways.{Window};
 ghost use Rattle.event.specs.Outcomes.{window_start, outcome_of};

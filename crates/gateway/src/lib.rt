@@ -1,4 +1,6 @@
 // The gateway replay: what the messages of a recording did.
+#![tactic(auto)]
+
 ghost use Rattle.std.specs.Prelude.{◌≡◌, length, replicate};
 ghost use Rattle.gateway.specs.Replay.{replay_of};
 
@@ -11,7 +13,7 @@ mod step;
 
 // A barrier: "its byte and who waits". Bit t of `waiting`: thread t waits.
 #[repr(C)]
-#[derive(Drop)]
+#[derive(Clone, Copy)]
 pub struct Barrier {
     pub byte: u32,
     pub waiting: u32,
@@ -19,7 +21,7 @@ pub struct Barrier {
 
 // What the replay answers: 0, or why the recording is turned away; the gateways and the barriers at its end.
 #[repr(C)]
-#[derive(Drop)]
+#[derive(Clone, Copy)]
 pub struct Replayed {
     pub number: u32,
     pub gateways: [Gateway; 16],
@@ -27,7 +29,7 @@ pub struct Replayed {
 }
 
 // What the events leave beside the lent buffers: the gateways, four words a thread, each barrier's byte, and who waits, bit t for thread t.
-#[derive(Drop)]
+#[derive(Clone, Copy)]
 struct Ended {
     gateways: [u32; 64],
     bytes: [u32; 16],

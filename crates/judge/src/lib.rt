@@ -1,4 +1,6 @@
 // Refusals 3 to 9 of one command: rows 3 to 5 by its first dword, rows 6 to 9 by its kind.
+#![tactic(auto)]
+
 ghost use Rattle.std.specs.Prelude.{◌≡◌};
 ghost use Rattle.command.specs.Kinds.{length_field, length_allowed};
 ghost use Rattle.judge.specs.Refusals.{scoreboard_only, without_flush, header_verdict, own_verdict, is_passed, Vouches};
@@ -8,7 +10,7 @@ use command::head::total;
 use masks::{marked, stray};
 
 // A refusal of document 01 at a dword counted from the command's first, or none.
-#[derive(Drop)]
+#[derive(Clone, Copy)]
 pub enum Verdict {
     Fault { number: u32, skip: u32 },
     Passed,

@@ -1,1 +1,2 @@
 // No code: what several crates cite, stated once.
+#![tactic(auto)]

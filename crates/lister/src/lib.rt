@@ -1,4 +1,6 @@
 // What the listing programs share: standard input, read and listed.
+#![tactic(auto)]
+
 ghost use Rattle.std.specs.Prelude.{◌≡◌, ◌+◌, ◌≤◌, length};
 ghost use Rattle.io.specs.Counts.{IsPrefixLen};
 ghost use Rattle.lister.specs.Listed.{text_after, to_print};
@@ -7,7 +9,7 @@ use chips::Chip;
 use libc::STDIN_FILENO;
 
 // Whether no read failed, how many bytes were read, and how many the text has.
-#[derive(Drop)]
+#[derive(Clone, Copy)]
 pub struct Listed {
     pub whole: bool,
     pub bytes: usize,
@@ -15,7 +17,7 @@ pub struct Listed {
 }
 
 // How many bytes came, and whether no read failed. io::read_full would take a failed read for the input's end.
-#[derive(Drop)]
+#[derive(Clone, Copy)]
 struct Input {
     bytes: usize,
     whole: bool,

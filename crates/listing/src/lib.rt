@@ -1,4 +1,6 @@
 // The listing of a batch: from the bytes read to the bytes to print, in a text buffer that the caller lends.
+#![tactic(auto)]
+
 ghost use Rattle.std.specs.Prelude.{◌≡◌, ◌+◌, ◌*◌, ◌≤◌, length};
 ghost use Rattle.io.specs.Counts.{IsPrefixLen};
 ghost use Rattle.words.specs.Dwords.{dwords_of};

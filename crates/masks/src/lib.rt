@@ -1,4 +1,6 @@
 // The must-be-zero masks of both chips, and the test of a dword against its mask.
+#![tactic(auto)]
+
 ghost use Rattle.std.specs.Prelude.{◌≡◌, not, ◌<◌, eqb};
 ghost use Rattle.laws.specs.BitRanges.{any_set};
 ghost use Rattle.masks.specs.MustBeZero.{row_of, marked_bits};

@@ -1,4 +1,6 @@
 // What C links: the checks over numbers and slices (include/mpl.h), and nothing else.
+#![tactic(auto)]
+
 ghost use Rattle.std.specs.Prelude.{◌≡◌, not, eqb};
 ghost use Rattle.deltas.specs.InPlay.{in_play, counted};
 ghost use Rattle.batch.specs.Answers.{answer_of, records_of, bytes_answer_of, bytes_records_of};

@@ -1,5 +1,7 @@
 // Prints the listing of the batch on standard input, for Gen6. A program of the kit has no exit status: what fails is said on standard
 // error.
+#![tactic(auto)]
+
 use chips::Chip;
 use libc::{STDERR_FILENO, STDOUT_FILENO};
 

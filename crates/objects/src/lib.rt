@@ -1,10 +1,12 @@
 // The objects of a batch, out of its records.
+#![tactic(auto)]
+
 mod record_words;
 pub mod recorded;
 pub mod walk;
 
 // What 25 compares, of an object that is to start, and the corner of what its deltas reach.
-#[derive(Drop)]
+#[derive(Clone, Copy)]
 pub struct Candidate {
     pub x: u32,
     pub y: u32,
@@ -16,7 +18,7 @@ pub struct Candidate {
 }
 
 // An object, and a record at or before its own.
-#[derive(Drop)]
+#[derive(Clone, Copy)]
 pub struct Spot {
     pub object: usize,
     pub at: usize,

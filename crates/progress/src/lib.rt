@@ -1,4 +1,6 @@
 // How far the reading of a batch that comes in parts has come, and what one command of it changes.
+#![tactic(auto)]
+
 ghost use Rattle.std.specs.Prelude.{◌≡◌, ◌+◌, ◌^◌, ◌<◌, ◌≤◌, length, take, drop};
 ghost use Rattle.command.specs.Order.{command_of};
 ghost use Rattle.judge.specs.Refusals.{judge_of};
@@ -17,7 +19,7 @@ use records::put;
 // What the commands passed have set; of the command that is not whole yet, its own dwords that have come (then zeros) and how many of its
 // dwords have come; its place, or the next command's. `stop` is 0 while reading goes on, 255 after END (`place`: the dwords read), else the
 // number of a refusal (`place`: its own).
-#[derive(Drop)]
+#[derive(Clone, Copy)]
 pub struct Progress {
     pub st: State,
     pub own: [u32; 8],

@@ -1,4 +1,6 @@
 // The first pass over a batch: it decides, and writes nothing.
+#![tactic(auto)]
+
 ghost use Rattle.std.specs.Prelude.{◌≡◌, true, ◌+◌, ◌≤◌, ◌<◌, ◌^◌, length, drop};
 ghost use Rattle.words.specs.Dwords.{lent};
 ghost use Rattle.reading.specs.Decision.{scan_of, decision_of};
@@ -13,7 +15,7 @@ use judge::{Verdict, header_verdict, own_verdict, sound};
 use words::{held, word};
 
 // What is found before anything is written: a refusal, or the end of the batch.
-#[derive(Drop)]
+#[derive(Clone, Copy)]
 pub enum Scanned {
     Stopped {
         number: u32,
@@ -27,7 +29,7 @@ pub enum Scanned {
 }
 
 // What one command leads to: a refusal at a dword of it, the end, or the next command after so many dwords.
-#[derive(Drop)]
+#[derive(Clone, Copy)]
 pub enum Turn {
     Refused { number: u32, skip: u32 },
     Last,
@@ -35,7 +37,7 @@ pub enum Turn {
 }
 
 // What some commands lead to: a refusal at a dword of the first of them, the end, or the place and the state to go on from.
-#[derive(Drop)]
+#[derive(Clone, Copy)]
 enum Step {
     Fault { number: u32, skip: u32 },
     End,

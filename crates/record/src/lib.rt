@@ -1,4 +1,6 @@
 // The 16 words of a record.
+#![tactic(auto)]
+
 ghost use Rattle.std.specs.Prelude.{◌≡◌, [], ◌∷◌, ◌-◌};
 ghost use Rattle.command.specs.Kinds.{inline_from};
 ghost use Rattle.command.specs.Order.{command_of};

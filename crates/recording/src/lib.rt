@@ -1,4 +1,6 @@
 // A recording's header: refusals 11 to 16, and what it says of every event.
+#![tactic(auto)]
+
 ghost use Rattle.std.specs.Prelude.{◌≡◌, ◌+◌, ◌≤◌, ◌<◌, length};
 ghost use Rattle.recording.specs.Recording.{marked, threads_of, stray_group_of, length_refusal_of, refusal_of, groups_of, setup_of};
 

@@ -1,4 +1,6 @@
 // The second pass over a batch: it writes the records.
+#![tactic(auto)]
+
 ghost use Rattle.std.specs.Prelude.{◌≡◌, ◌+◌, ◌*◌, ◌^◌, ◌<◌, ◌≤◌, length, true};
 ghost use Rattle.words.specs.Dwords.{lent, lent_buffer, put_in};
 ghost use Rattle.command.specs.Kinds.{length_field, length_allowed, total_of};
@@ -14,7 +16,7 @@ use record::words;
 use words::{store_in, word};
 
 // Where the second pass goes on.
-#[derive(Drop)]
+#[derive(Clone, Copy)]
 enum Place {
     Done,
     From { at: usize, st: State },

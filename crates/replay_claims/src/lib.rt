@@ -1,1 +1,2 @@
 // No code: what holds of every replay, and the isolation of recordings.
+#![tactic(auto)]

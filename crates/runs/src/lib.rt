@@ -1,4 +1,6 @@
 // A run: which of its events is the first bad one, and the states that it leaves.
+#![tactic(auto)]
+
 use awaited::Stretch;
 use objects::Spot;
 
@@ -6,7 +8,7 @@ pub mod events;
 mod starts;
 
 // What is wrong with an event: 21 to 25, with the object that 24 and 25 name and the delta that 25 names; else zeros.
-#[derive(Drop)]
+#[derive(Clone, Copy)]
 pub struct Verdict {
     pub number: u32,
     pub object: u32,
@@ -14,7 +16,7 @@ pub struct Verdict {
 }
 
 // How a run ended: the bad event's verdict and position, or no fault and the event count.
-#[derive(Drop)]
+#[derive(Clone, Copy)]
 pub struct RunEnd {
     pub verdict: Verdict,
     pub position: usize,
@@ -22,7 +24,7 @@ pub struct RunEnd {
 
 // Where the searches of the next start go on: no object below `waiting` is in state 0, every object below `unfinished` is finished, `last`
 // was the last to start, and `crossed` is the stretch that was crossed last.
-#[derive(Drop)]
+#[derive(Clone, Copy)]
 pub struct Cursors {
     pub waiting: usize,
     pub unfinished: Spot,
@@ -31,7 +33,7 @@ pub struct Cursors {
 }
 
 // A verdict, and where the next start goes on.
-#[derive(Drop)]
+#[derive(Clone, Copy)]
 pub struct Judgement {
     pub verdict: Verdict,
     pub cursors: Cursors,

@@ -1,4 +1,6 @@
 // The order check: is the order in which blocks ran one that the scoreboard permits?
+#![tactic(auto)]
+
 ghost use Rattle.std.specs.Prelude.{◌≡◌};
 ghost use Rattle.scoreboard.specs.Answers.{order_for, bytes_order_for, order_of, bytes_order_of};
 
@@ -10,7 +12,7 @@ mod order;
 // are those that the number names, else 0. 18: place 0. 1 to 10 and 17 of the batch: as the batch check; 17 of the run: place is the run's
 // whole dwords.
 #[repr(C)]
-#[derive(Drop)]
+#[derive(Clone, Copy)]
 pub struct Answer {
     pub number: u64,
     pub place: u64,

@@ -1,4 +1,6 @@
 // The writers of a listing's lines, into a text buffer that the caller lends.
+#![tactic(auto)]
+
 ghost use Rattle.std.specs.Prelude.{◌≡◌, [], ◌∷◌, ◌+◌, ◌≤◌, ◌<◌, length, take, drop};
 ghost use Rattle.text.specs.Lines.{number_of, name_of, line_of, refused_line, accepted_line};
 ghost use Rattle.text.specs.Writing.{Wrote};

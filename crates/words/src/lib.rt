@@ -1,4 +1,6 @@
 // Dwords as the checks read and write them: lent as dwords, or as little-endian bytes.
+#![tactic(auto)]
+
 ghost use Rattle.std.specs.Prelude.{◌≡◌, ◌+◌, ◌*◌, ◌<◌, ◌≤◌, length, get_or};
 ghost use Rattle.words.specs.Dwords.{le_at, put_le, put_in, lent, lent_buffer};
 
