@@ -13,8 +13,8 @@ use objects::recorded::{delta_to, is_object, near, number, reached};
 
 // Is record r that of an unfinished object?
 fn unfinished(rd: &[u32], rb: &[u8], states: &[u8], r: usize) -> bool
-    requires { StateIn (lent rd rb) states.now r }
-    ensures { result ≡ unfinished_record (lent rd.entry rb.entry) states.now r }
+    requires { StateIn (lent rd.now rb.now) states.now r }
+    ensures { result ≡ unfinished_record (lent rd.now rb.now) states.now r }
 {
     if !is_object(rd, rb, r) {
         return false;
@@ -24,8 +24,8 @@ fn unfinished(rd: &[u32], rb: &[u8], states: &[u8], r: usize) -> bool
 
 // Is it that of an object that the candidate waits for?
 fn awaited(rd: &[u32], rb: &[u8], states: &[u8], c: Candidate, r: usize) -> bool
-    requires { StateIn (lent rd rb) states.now r }
-    ensures { result ≡ awaited_record (lent rd.entry rb.entry) states.now c r }
+    requires { StateIn (lent rd.now rb.now) states.now r }
+    ensures { result ≡ awaited_record (lent rd.now rb.now) states.now c r }
 {
     if !unfinished(rd, rb, states, r) {
         return false;
@@ -35,8 +35,8 @@ fn awaited(rd: &[u32], rb: &[u8], states: &[u8], c: Candidate, r: usize) -> bool
 
 // Does record r pass the quick test or, where it is not the whole one, its half?
 fn tested(rd: &[u32], rb: &[u8], whole: bool, corner: u64, rows: &[u32], r: usize) -> bool
-    requires { RecordIn (lent rd rb) r × (length rows.now ≡ 16) }
-    ensures { result ≡ tested_at whole (lent rd.entry rb.entry) corner rows.now r }
+    requires { RecordIn (lent rd.now rb.now) r × (length rows.now ≡ 16) }
+    ensures { result ≡ tested_at whole (lent rd.now rb.now) corner rows.now r }
 {
     if whole {
         return reached(rd, rb, corner, rows, r);
@@ -46,8 +46,8 @@ fn tested(rd: &[u32], rb: &[u8], whole: bool, corner: u64, rows: &[u32], r: usiz
 
 // Does one of the four records from r on pass that test?
 fn four_tested(rd: &[u32], rb: &[u8], whole: bool, corner: u64, rows: &[u32], r: usize) -> bool
-    requires { RecordsIn (lent rd rb) (r + 4) × (length rows.now ≡ 16) }
-    ensures { result ≡ one_of_four (tested_at whole (lent rd.entry rb.entry) corner rows.now) r }
+    requires { RecordsIn (lent rd.now rb.now) (r + 4) × (length rows.now ≡ 16) }
+    ensures { result ≡ one_of_four (tested_at whole (lent rd.now rb.now) corner rows.now) r }
 {
     if tested(rd, rb, whole, corner, rows, r) {
         return true;
@@ -71,8 +71,8 @@ fn leap(
     from: usize,
     to: usize,
 ) -> usize
-    requires { RecordsIn (lent rd rb) to × (from ≤ to) × (length rows.now ≡ 16) }
-    ensures { Passed (tested_at whole (lent rd.entry rb.entry) corner rows.now) from to result }
+    requires { RecordsIn (lent rd.now rb.now) to × (from ≤ to) × (length rows.now ≡ 16) }
+    ensures { Passed (tested_at whole (lent rd.now rb.now) corner rows.now) from to result }
 {
     let mut r = from;
     while 4 <= to - r {
@@ -86,8 +86,8 @@ fn leap(
 
 // The first record within reach, or `to`.
 fn first_reached(rd: &[u32], rb: &[u8], corner: u64, rows: &[u32], from: usize, to: usize) -> usize
-    requires { RecordsIn (lent rd rb) to × (from ≤ to) × (length rows.now ≡ 16) }
-    ensures { Passed (reached_at (lent rd.entry rb.entry) corner rows.now) from to result }
+    requires { RecordsIn (lent rd.now rb.now) to × (from ≤ to) × (length rows.now ≡ 16) }
+    ensures { Passed (reached_at (lent rd.now rb.now) corner rows.now) from to result }
 {
     let mut r = leap(rd, rb, true, corner, rows, from, to);
     while r < to {
@@ -110,9 +110,9 @@ fn first_awaited(
     from: usize,
     to: usize,
 ) -> usize
-    requires { StatesIn (lent rd rb) states.now to × QuickTest (lent rd rb) c rows.now × (from ≤ to)
-        × NoneBelow (awaited_record (lent rd rb) states.now c) from }
-    ensures { result ≡ find_first to (awaited_record (lent rd.entry rb.entry) states.now c) }
+    requires { StatesIn (lent rd.now rb.now) states.now to × QuickTest (lent rd.now rb.now) c rows.now × (from ≤ to)
+        × NoneBelow (awaited_record (lent rd.now rb.now) states.now c) from }
+    ensures { result ≡ find_first to (awaited_record (lent rd.now rb.now) states.now c) }
 {
     let mut r = leap(rd, rb, false, c.corner, rows, from, to);
     while r < to {
@@ -140,8 +140,8 @@ fn past(s: Stretch, r: usize) -> usize
 
 // Crosses finished objects: from record `from` up to the first that is an unfinished object's, or to `to` or past it.
 fn cross(rd: &[u32], rb: &[u8], states: &[u8], s: Stretch, from: usize, to: usize) -> usize
-    requires { StatesIn (lent rd rb) states.now to × Crossed (lent rd rb) states.now s }
-    ensures { Crossed (lent rd.entry rb.entry) states.now (record { from = from; to = result }) }
+    requires { StatesIn (lent rd.now rb.now) states.now to × Crossed (lent rd.now rb.now) states.now s }
+    ensures { Crossed (lent rd.now rb.now) states.now (record { from = from; to = result }) }
 {
     let mut r = past(s, from);
     while r < to {
@@ -186,9 +186,9 @@ fn search(
     from: usize,
     own: usize,
 ) -> Found
-    requires { StatesIn (lent rd rb) states.now own × QuickTest (lent rd rb) c rows.now × (own < 16384)
-        × Crossed (lent rd rb) states.now s × NoneBelow (awaited_record (lent rd rb) states.now c) from }
-    ensures { Finds (lent rd.entry rb.entry) states.now c own result }
+    requires { StatesIn (lent rd.now rb.now) states.now own × QuickTest (lent rd.now rb.now) c rows.now × (own < 16384)
+        × Crossed (lent rd.now rb.now) states.now s × NoneBelow (awaited_record (lent rd.now rb.now) states.now c) from }
+    ensures { Finds (lent rd.now rb.now) states.now c own result }
 {
     let mut r = from;
     let mut crossed = s;
@@ -214,9 +214,9 @@ pub fn find(
     from: usize,
     own: usize,
 ) -> Found
-    requires { StatesIn (lent rd rb) states.now own × (c ≡ candidate_of (lent rd rb) own) × (own < 16384)
-        × Crossed (lent rd rb) states.now s × NoneBelow (awaited_record (lent rd rb) states.now c) from }
-    ensures { Finds (lent rd.entry rb.entry) states.now c own result }
+    requires { StatesIn (lent rd.now rb.now) states.now own × (c ≡ candidate_of (lent rd.now rb.now) own) × (own < 16384)
+        × Crossed (lent rd.now rb.now) states.now s × NoneBelow (awaited_record (lent rd.now rb.now) states.now c) from }
+    ensures { Finds (lent rd.now rb.now) states.now c own result }
 {
     let mut rows = [0u32; 16];
     set_rows(&mut rows, c.mask, c.d6, c.d7);

@@ -66,3 +66,5 @@ module _ {A : Type 0} (refused : ℕ → ℕ → A) (given : Chip → A) (n : �
 
   pub chip_known : (a : A) (c : Chip) → v ≡ Known c → a ≡ given c → a ≡ on_chip refused given n
   chip_known a c k q = q ∙ ap (by_named (refused 18 0) given) (sym k ∙ e)
+
+pub ruleset chip_names = (names_none)

@@ -25,6 +25,7 @@ pub struct Target {
 }
 
 // The chip that a number names.
+#[tactic(auto, using(crate::proofs::Chips::chip_names), unfolding(crate::specs::Chips::named_by))]
 pub fn chip_named(number: u32) -> Named
     ensures { result ≡ named_by number }
 {

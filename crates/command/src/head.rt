@@ -75,8 +75,8 @@ pub fn total(k: u32, d: u32) -> u32
 
 // An OBJECT: six dwords, no inline data.
 fn object_dwords(dw: &[u32], by: &[u8], at: usize, d: u32) -> [u32; 8]
-    requires { DwordsAt (lent dw by) at 6 d }
-    ensures { result ≡ head_of 7 (drop at (lent dw.entry by.entry)) }
+    requires { DwordsAt (lent dw.now by.now) at 6 d }
+    ensures { result ≡ head_of 7 (drop at (lent dw.now by.now)) }
 {
     [
         d,
@@ -92,8 +92,8 @@ fn object_dwords(dw: &[u32], by: &[u8], at: usize, d: u32) -> [u32; 8]
 
 // A VFE: eight.
 fn vfe_dwords(dw: &[u32], by: &[u8], at: usize, d: u32) -> [u32; 8]
-    requires { DwordsAt (lent dw by) at 8 d }
-    ensures { result ≡ head_of 3 (drop at (lent dw.entry by.entry)) }
+    requires { DwordsAt (lent dw.now by.now) at 8 d }
+    ensures { result ≡ head_of 3 (drop at (lent dw.now by.now)) }
 {
     [
         d,
@@ -109,8 +109,8 @@ fn vfe_dwords(dw: &[u32], by: &[u8], at: usize, d: u32) -> [u32; 8]
 
 // A load: four.
 fn load_dwords(dw: &[u32], by: &[u8], at: usize, d: u32) -> [u32; 8]
-    requires { DwordsAt (lent dw by) at 4 d }
-    ensures { result ≡ head_of 4 (drop at (lent dw.entry by.entry)) }
+    requires { DwordsAt (lent dw.now by.now) at 4 d }
+    ensures { result ≡ head_of 4 (drop at (lent dw.now by.now)) }
 {
     [
         d,
@@ -126,8 +126,8 @@ fn load_dwords(dw: &[u32], by: &[u8], at: usize, d: u32) -> [u32; 8]
 
 // A state flush or gateway state: two.
 fn short_dwords(dw: &[u32], by: &[u8], at: usize, d: u32) -> [u32; 8]
-    requires { DwordsAt (lent dw by) at 2 d }
-    ensures { result ≡ head_of 6 (drop at (lent dw.entry by.entry)) }
+    requires { DwordsAt (lent dw.now by.now) at 2 d }
+    ensures { result ≡ head_of 6 (drop at (lent dw.now by.now)) }
 {
     [d, word(dw, by, at + 1), 0, 0, 0, 0, 0, 0]
 }
@@ -149,8 +149,8 @@ pub fn own_count(k: u32) -> usize
 
 // The own dwords of the command of kind k at a place, whose first dword is d.
 pub fn own_dwords(dw: &[u32], by: &[u8], at: usize, k: u32, d: u32) -> [u32; 8]
-    requires { DwordsAt (lent dw by) at (own_dwords k) d }
-    ensures { result ≡ head_of k (drop at (lent dw.entry by.entry)) }
+    requires { DwordsAt (lent dw.now by.now) at (own_dwords k) d }
+    ensures { result ≡ head_of k (drop at (lent dw.now by.now)) }
 {
     match k {
         7 => object_dwords(dw, by, at, d),

@@ -8,16 +8,16 @@ use words::{held, word};
 
 // Word f of record r.
 pub fn record_word(rd: &[u32], rb: &[u8], r: usize, f: usize) -> u32
-    requires { RecordIn (lent rd rb) r × (f < 16) }
-    ensures { result ≡ word_at (lent rd.entry rb.entry) r f }
+    requires { RecordIn (lent rd.now rb.now) r × (f < 16) }
+    ensures { result ≡ word_at (lent rd.now rb.now) r f }
 {
     word(rd, rb, slot_of(r, f))
 }
 
 // Word f of the record of the VFE in force at record r.
 pub fn vfe_word(rd: &[u32], rb: &[u8], r: usize, f: usize) -> u32
-    requires { RecordIn (lent rd rb) r × (f < 16) }
-    ensures { result ≡ vfe_word_at (lent rd.entry rb.entry) r f }
+    requires { RecordIn (lent rd.now rb.now) r × (f < 16) }
+    ensures { result ≡ vfe_word_at (lent rd.now rb.now) r f }
 {
     let i = slot_of(record_word(rd, rb, r, 14) as usize, f);
     if i < held(rd, rb) {

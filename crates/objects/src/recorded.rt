@@ -13,24 +13,24 @@ use deltas::reach::place;
 
 // Is record r an OBJECT's?
 pub fn is_object(rd: &[u32], rb: &[u8], r: usize) -> bool
-    requires { RecordIn (lent rd rb) r }
-    ensures { result ≡ is_object (lent rd.entry rb.entry) r }
+    requires { RecordIn (lent rd.now rb.now) r }
+    ensures { result ≡ is_object (lent rd.now rb.now) r }
 {
     record_word(rd, rb, r, 0) == 7
 }
 
 // The number of the object of record r.
 pub fn number(rd: &[u32], rb: &[u8], r: usize) -> usize
-    requires { RecordIn (lent rd rb) r }
-    ensures { result ≡ word_at (lent rd.entry rb.entry) r 15 }
+    requires { RecordIn (lent rd.now rb.now) r }
+    ensures { result ≡ word_at (lent rd.now rb.now) r 15 }
 {
     record_word(rd, rb, r, 15) as usize
 }
 
 // Does the object of record r use a scoreboard of type 0?
 pub fn stalls(rd: &[u32], rb: &[u8], r: usize) -> bool
-    requires { RecordIn (lent rd rb) r }
-    ensures { result ≡ stalls_at (lent rd.entry rb.entry) r }
+    requires { RecordIn (lent rd.now rb.now) r }
+    ensures { result ≡ stalls_at (lent rd.now rb.now) r }
 {
     let d5 = vfe_word(rd, rb, r, 8);
     if !uses_scoreboard(record_word(rd, rb, r, 4), d5) {
@@ -41,8 +41,8 @@ pub fn stalls(rd: &[u32], rb: &[u8], r: usize) -> bool
 
 // The deltas in play of the object of record r, as a mask of eight.
 pub fn mask(rd: &[u32], rb: &[u8], r: usize) -> u32
-    requires { RecordIn (lent rd rb) r }
-    ensures { result ≡ mask_at (lent rd.entry rb.entry) r }
+    requires { RecordIn (lent rd.now rb.now) r }
+    ensures { result ≡ mask_at (lent rd.now rb.now) r }
 {
     joined_mask(
         record_word(rd, rb, r, 4),
@@ -53,16 +53,16 @@ pub fn mask(rd: &[u32], rb: &[u8], r: usize) -> u32
 
 // The place from which every delta of the object of record r leads 0 to 15 on.
 fn corner(rd: &[u32], rb: &[u8], r: usize) -> u64
-    requires { RecordIn (lent rd rb) r }
-    ensures { result ≡ corner_at (lent rd.entry rb.entry) r }
+    requires { RecordIn (lent rd.now rb.now) r }
+    ensures { result ≡ corner_at (lent rd.now rb.now) r }
 {
     reach::corner(record_word(rd, rb, r, 7), record_word(rd, rb, r, 8))
 }
 
 // What 25 compares, of the object of record r, and the corner of what its deltas reach.
 pub fn candidate(rd: &[u32], rb: &[u8], r: usize) -> Candidate
-    requires { RecordIn (lent rd rb) r }
-    ensures { result ≡ candidate_of (lent rd.entry rb.entry) r }
+    requires { RecordIn (lent rd.now rb.now) r }
+    ensures { result ≡ candidate_of (lent rd.now rb.now) r }
 {
     Candidate {
         x: record_word(rd, rb, r, 7),
@@ -77,16 +77,16 @@ pub fn candidate(rd: &[u32], rb: &[u8], r: usize) -> Candidate
 
 // Where the object of record r stands, as one number.
 fn place_at(rd: &[u32], rb: &[u8], r: usize) -> u64
-    requires { RecordIn (lent rd rb) r }
-    ensures { result ≡ place_at (lent rd.entry rb.entry) r }
+    requires { RecordIn (lent rd.now rb.now) r }
+    ensures { result ≡ place_at (lent rd.now rb.now) r }
 {
     place(record_word(rd, rb, r, 7), record_word(rd, rb, r, 8))
 }
 
 // Is the object of record r near enough to the candidate of a corner for any delta to lead there?
 pub fn near(rd: &[u32], rb: &[u8], corner: u64, r: usize) -> bool
-    requires { RecordIn (lent rd rb) r }
-    ensures { result ≡ near_at (lent rd.entry rb.entry) corner r }
+    requires { RecordIn (lent rd.now rb.now) r }
+    ensures { result ≡ near_at (lent rd.now rb.now) corner r }
 {
     reach::near(corner, place_at(rd, rb, r))
 }
@@ -94,8 +94,8 @@ pub fn near(rd: &[u32], rb: &[u8], corner: u64, r: usize) -> bool
 // A quick test of the object of record r, which most objects fail: no delta of the candidate leads to one that does. The corner is the
 // candidate's, and the rows are those of its deltas.
 pub fn reached(rd: &[u32], rb: &[u8], corner: u64, rows: &[u32], r: usize) -> bool
-    requires { RecordIn (lent rd rb) r × (length rows.now ≡ 16) }
-    ensures { result ≡ reached_at (lent rd.entry rb.entry) corner rows.now r }
+    requires { RecordIn (lent rd.now rb.now) r × (length rows.now ≡ 16) }
+    ensures { result ≡ reached_at (lent rd.now rb.now) corner rows.now r }
 {
     reach::reached(corner, rows, place_at(rd, rb, r))
 }
@@ -103,8 +103,8 @@ pub fn reached(rd: &[u32], rb: &[u8], corner: u64, rows: &[u32], r: usize) -> bo
 // The lowest delta of a candidate at the object of record r, if that one uses a scoreboard and colours agree; else 8. Who is looked at has
 // passed the quick test, so that a delta most often leads there: the tests that need less come first.
 pub fn delta_to(rd: &[u32], rb: &[u8], c: Candidate, r: usize) -> u32
-    requires { RecordIn (lent rd rb) r }
-    ensures { result ≡ delta_to (lent rd.entry rb.entry) c r }
+    requires { RecordIn (lent rd.now rb.now) r }
+    ensures { result ≡ delta_to (lent rd.now rb.now) c r }
 {
     if record_word(rd, rb, r, 9) != c.colour {
         return 8;

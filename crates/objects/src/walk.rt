@@ -9,8 +9,8 @@ use crate::recorded::{is_object, number};
 
 // By how many records the walk to object k goes on from record r: by none at its own.
 fn step_to(rd: &[u32], rb: &[u8], k: usize, r: usize) -> usize
-    requires { RecordIn (lent rd rb) r × (is_object (lent rd rb) r ≡ true → word_at (lent rd rb) r 15 ≤ k) }
-    ensures { result ≡ step_to (lent rd.entry rb.entry) k r }
+    requires { RecordIn (lent rd.now rb.now) r × (is_object (lent rd.now rb.now) r ≡ true → word_at (lent rd.now rb.now) r 15 ≤ k) }
+    ensures { result ≡ step_to (lent rd.now rb.now) k r }
 {
     if !is_object(rd, rb, r) {
         return 1;
@@ -20,9 +20,9 @@ fn step_to(rd: &[u32], rb: &[u8], k: usize, r: usize) -> usize
 
 // The record of object k, by a walk from a spot at or before it.
 pub fn record_of(rd: &[u32], rb: &[u8], n: usize, from: Spot, k: usize) -> usize
-    requires { Records (lent rd rb) n × Numbered (lent rd rb) n × Spotted (lent rd rb) n from.object from.at
-        × (from.object ≤ k) × (k < length (objects_recorded (lent rd rb) n)) }
-    ensures { Holds (lent rd.entry rb.entry) n k result }
+    requires { Records (lent rd.now rb.now) n × Numbered (lent rd.now rb.now) n × Spotted (lent rd.now rb.now) n from.object from.at
+        × (from.object ≤ k) × (k < length (objects_recorded (lent rd.now rb.now) n)) }
+    ensures { Holds (lent rd.now rb.now) n k result }
 {
     let mut r = from.at + (k - from.object);
     loop {

@@ -46,8 +46,8 @@ enum Step {
 
 // The command of kind k at a place, whose first dword is d: that dword, then only the dwords of its own.
 fn advance_as(dw: &[u32], by: &[u8], len: usize, at: usize, k: u32, d: u32, st: State) -> Turn
-    requires { TurnAt (lent dw by) len at st × StartsWith st.chip (lent dw by) at k d }
-    ensures { result ≡ turn_of (drop at (lent dw.entry by.entry)) st }
+    requires { TurnAt (lent dw.now by.now) len at st × StartsWith st.chip (lent dw.now by.now) at k d }
+    ensures { result ≡ turn_of (drop at (lent dw.now by.now)) st }
 {
     match header_verdict(k, d, len - at) {
         Verdict::Fault { number, skip } => Turn::Refused { number, skip },
@@ -86,8 +86,8 @@ fn as_step(at: usize, turn: Turn) -> Step
 
 // Does a command of t dwords with the first dword d stand at a place?
 pub fn repeated(dw: &[u32], by: &[u8], len: usize, at: usize, t: usize, d: u32) -> bool
-    requires { (len ≡ length (lent dw by)) × (at ≤ len) × (1 ≤ t) }
-    ensures { result ≡ stands_at (lent dw.entry by.entry) at t d }
+    requires { (len ≡ length (lent dw.now by.now)) × (at ≤ len) × (1 ≤ t) }
+    ensures { result ≡ stands_at (lent dw.now by.now) at t d }
 {
     if len - at < t {
         return false;
@@ -98,8 +98,8 @@ pub fn repeated(dw: &[u32], by: &[u8], len: usize, at: usize, t: usize, d: u32) 
 // The commands from a place on that start with the same dword d, of kind k, as the one before, while they pass. Their total is known before
 // they are read, so that the next is not waited for.
 fn again(dw: &[u32], by: &[u8], len: usize, from: usize, k: u32, d: u32, st: State) -> Step
-    requires { (len ≡ length (lent dw by)) × (len ≤ 16384) × Within (lent dw by) from st × Header st.chip k d }
-    ensures { Same (lent dw.entry by.entry) from st result }
+    requires { (len ≡ length (lent dw.now by.now)) × (len ≤ 16384) × Within (lent dw.now by.now) from st × Header st.chip k d }
+    ensures { Same (lent dw.now by.now) from st result }
 {
     let t = total(k, d) as usize;
     let mut at = from;
@@ -117,8 +117,8 @@ fn again(dw: &[u32], by: &[u8], len: usize, from: usize, k: u32, d: u32, st: Sta
 
 // Do four no-ops stand at a place?
 fn four_no_ops(dw: &[u32], by: &[u8], len: usize, at: usize) -> bool
-    requires { (len ≡ length (lent dw by)) × (at ≤ len) × (len ≤ 16384) }
-    ensures { result ≡ true → NoOps (lent dw.entry by.entry) at 4 }
+    requires { (len ≡ length (lent dw.now by.now)) × (at ≤ len) × (len ≤ 16384) }
+    ensures { result ≡ true → NoOps (lent dw.now by.now) at 4 }
 {
     if len - at < 4 {
         return false;
@@ -128,8 +128,8 @@ fn four_no_ops(dw: &[u32], by: &[u8], len: usize, at: usize) -> bool
 
 // The no-ops from a place on, four at a time.
 fn no_ops(dw: &[u32], by: &[u8], len: usize, from: usize, st: State) -> Step
-    requires { (len ≡ length (lent dw by)) × (len ≤ 16384) × Within (lent dw by) from st }
-    ensures { Same (lent dw.entry by.entry) from st result }
+    requires { (len ≡ length (lent dw.now by.now)) × (len ≤ 16384) × Within (lent dw.now by.now) from st }
+    ensures { Same (lent dw.now by.now) from st result }
 {
     let mut at = from;
     let mut s = st;
@@ -142,8 +142,8 @@ fn no_ops(dw: &[u32], by: &[u8], len: usize, from: usize, st: State) -> Step
 
 // A step, then the commands that start with the same dword.
 fn and_again(dw: &[u32], by: &[u8], len: usize, k: u32, d: u32, first: Step) -> Step
-    requires { (len ≡ length (lent dw by)) × (len ≤ 16384) × Ready (lent dw by) k d first }
-    ensures { Onward (lent dw.entry by.entry) first result }
+    requires { (len ≡ length (lent dw.now by.now)) × (len ≤ 16384) × Ready (lent dw.now by.now) k d first }
+    ensures { Onward (lent dw.now by.now) first result }
 {
     match first {
         Step::Fault { number, skip } => Step::Fault { number, skip },
@@ -159,9 +159,9 @@ fn and_again(dw: &[u32], by: &[u8], len: usize, k: u32, d: u32, first: Step) -> 
 
 // The command of kind k at a place, whose first dword is d, and those after it that start with the same dword, where k is rarely met.
 fn advance_other(dw: &[u32], by: &[u8], len: usize, at: usize, k: u32, d: u32, st: State) -> Step
-    requires { (len ≡ length (lent dw by)) × (at < len) × (len ≤ 16384) × Within (lent dw by) at st
-        × StartsWith st.chip (lent dw by) at k d }
-    ensures { Steps (lent dw.entry by.entry) at st result }
+    requires { (len ≡ length (lent dw.now by.now)) × (at < len) × (len ≤ 16384) × Within (lent dw.now by.now) at st
+        × StartsWith st.chip (lent dw.now by.now) at k d }
+    ensures { Steps (lent dw.now by.now) at st result }
 {
     if k == 4 {
         let first = as_step(at, advance_as(dw, by, len, at, 4, d, st));
@@ -180,8 +180,8 @@ fn advance_other(dw: &[u32], by: &[u8], len: usize, at: usize, k: u32, d: u32, s
 
 // The command at a place, and those after it that start with the same dword. A kind that is a constant in the call gets code of its own.
 fn advance(dw: &[u32], by: &[u8], len: usize, at: usize, st: State) -> Step
-    requires { (len ≡ length (lent dw by)) × (at < len) × (len ≤ 16384) × Within (lent dw by) at st }
-    ensures { Steps (lent dw.entry by.entry) at st result }
+    requires { (len ≡ length (lent dw.now by.now)) × (at < len) × (len ≤ 16384) × Within (lent dw.now by.now) at st }
+    ensures { Steps (lent dw.now by.now) at st result }
 {
     let d = word(dw, by, at);
     let chip = st.chip;
@@ -212,8 +212,8 @@ fn advance(dw: &[u32], by: &[u8], len: usize, at: usize, st: State) -> Step
 
 // The first pass.
 fn scan(target: Target, dw: &[u32], by: &[u8]) -> Scanned
-    requires { length (lent dw by) ≤ 16384 }
-    ensures { result ≡ scan_of target (lent dw.entry by.entry) }
+    requires { length (lent dw.now by.now) ≤ 16384 }
+    ensures { result ≡ scan_of target (lent dw.now by.now) }
 {
     let len = held(dw, by);
     let mut at: usize = 0;
@@ -248,7 +248,7 @@ fn scan(target: Target, dw: &[u32], by: &[u8]) -> Scanned
 // The whole decision, before anything is written: 1 to 10, or the end of the batch with what it has. The record buffer has room for so many
 // words.
 pub fn decide(target: Target, dw: &[u32], by: &[u8], room: usize) -> Scanned
-    ensures { result ≡ decision_of target room (lent dw.entry by.entry) }
+    ensures { result ≡ decision_of target room (lent dw.now by.now) }
 {
     if 16384 < held(dw, by) {
         return Scanned::Stopped {

@@ -32,8 +32,8 @@ pub fn slot_of(i: usize, f: usize) -> usize
 
 // Writes the words of record i.
 pub fn put(rd: &mut [u32], rb: &mut [u8], i: usize, w: [u32; 16])
-    requires { (16 * i + 16 ≤ length (lent rd rb)) × (i < 2 ^ 32) }
-    ensures { lent_buffer rd.exit rb.exit ≡ put_words put_in (lent_buffer rd.entry rb.entry) i w 16 }
+    requires { (16 * i + 16 ≤ length (lent rd.old rb.old)) × (i < 2 ^ 32) }
+    ensures { lent_buffer rd.new rb.new ≡ put_words put_in (lent_buffer rd.old rb.old) i w 16 }
 {
     let mut f: usize = 0;
     while f < 16 {
@@ -69,11 +69,11 @@ fn record_as(
     rd: &mut [u32],
     rb: &mut [u8],
 ) -> Place
-    requires { Left (lent dw by) at st (length (lent rd rb)) × StartsWith st.chip (lent dw by) at k d }
-    ensures { (rest_of (lent dw.entry by.entry) result (lent_buffer rd.exit rb.exit)
-        ≡ records_from (lent dw.entry by.entry) at st (lent_buffer rd.entry rb.entry))
-        × GoesOn (lent dw.entry by.entry) (at + 1) (length (lent rd.entry rb.entry)) result
-        × Ready (lent dw.entry by.entry) k d (length (lent rd.entry rb.entry)) result }
+    requires { Left (lent dw.now by.now) at st (length (lent rd.old rb.old)) × StartsWith st.chip (lent dw.now by.now) at k d }
+    ensures { (rest_of (lent dw.now by.now) result (lent_buffer rd.new rb.new)
+        ≡ records_from (lent dw.now by.now) at st (lent_buffer rd.old rb.old))
+        × GoesOn (lent dw.now by.now) (at + 1) (length (lent rd.old rb.old)) result
+        × Ready (lent dw.now by.now) k d (length (lent rd.old rb.old)) result }
 {
     let t = passed_total(k, d);
     let h = own_dwords(dw, by, at, k, d);
@@ -98,10 +98,10 @@ fn again(
     rd: &mut [u32],
     rb: &mut [u8],
 ) -> Place
-    requires { Left (lent dw by) from st (length (lent rd rb)) × Header st.chip k d }
-    ensures { (rest_of (lent dw.entry by.entry) result (lent_buffer rd.exit rb.exit)
-        ≡ records_from (lent dw.entry by.entry) from st (lent_buffer rd.entry rb.entry))
-        × GoesOn (lent dw.entry by.entry) from (length (lent rd.entry rb.entry)) result }
+    requires { Left (lent dw.now by.now) from st (length (lent rd.old rb.old)) × Header st.chip k d }
+    ensures { (rest_of (lent dw.now by.now) result (lent_buffer rd.new rb.new)
+        ≡ records_from (lent dw.now by.now) from st (lent_buffer rd.old rb.old))
+        × GoesOn (lent dw.now by.now) from (length (lent rd.old rb.old)) result }
 {
     let t = passed_total(k, d);
     let mut at = from;
@@ -125,10 +125,10 @@ fn and_again(
     rd: &mut [u32],
     rb: &mut [u8],
 ) -> Place
-    requires { Ready (lent dw by) k d (length (lent rd rb)) first }
-    ensures { (rest_of (lent dw.entry by.entry) result (lent_buffer rd.exit rb.exit)
-        ≡ rest_of (lent dw.entry by.entry) first (lent_buffer rd.entry rb.entry))
-        × Onward (lent dw.entry by.entry) (length (lent rd.entry rb.entry)) first result }
+    requires { Ready (lent dw.now by.now) k d (length (lent rd.old rb.old)) first }
+    ensures { (rest_of (lent dw.now by.now) result (lent_buffer rd.new rb.new)
+        ≡ rest_of (lent dw.now by.now) first (lent_buffer rd.old rb.old))
+        × Onward (lent dw.now by.now) (length (lent rd.old rb.old)) first result }
 {
     match first {
         Place::Done => Place::Done,
@@ -148,10 +148,10 @@ fn record_other(
     rd: &mut [u32],
     rb: &mut [u8],
 ) -> Place
-    requires { Left (lent dw by) at st (length (lent rd rb)) × StartsWith st.chip (lent dw by) at k d }
-    ensures { (rest_of (lent dw.entry by.entry) result (lent_buffer rd.exit rb.exit)
-        ≡ records_from (lent dw.entry by.entry) at st (lent_buffer rd.entry rb.entry))
-        × GoesOn (lent dw.entry by.entry) (at + 1) (length (lent rd.entry rb.entry)) result }
+    requires { Left (lent dw.now by.now) at st (length (lent rd.old rb.old)) × StartsWith st.chip (lent dw.now by.now) at k d }
+    ensures { (rest_of (lent dw.now by.now) result (lent_buffer rd.new rb.new)
+        ≡ records_from (lent dw.now by.now) at st (lent_buffer rd.old rb.old))
+        × GoesOn (lent dw.now by.now) (at + 1) (length (lent rd.old rb.old)) result }
 {
     if k == 5 {
         let first = record_as(dw, by, at, 5, d, st, rd, rb);
@@ -175,10 +175,10 @@ fn record_other(
 // Writes the record of the command at a place, and of those after it that start with the same dword. A kind that is a constant in the call
 // gets code of its own.
 fn record_at(dw: &[u32], by: &[u8], at: usize, st: State, rd: &mut [u32], rb: &mut [u8]) -> Place
-    requires { Left (lent dw by) at st (length (lent rd rb)) }
-    ensures { (rest_of (lent dw.entry by.entry) result (lent_buffer rd.exit rb.exit)
-        ≡ records_from (lent dw.entry by.entry) at st (lent_buffer rd.entry rb.entry))
-        × GoesOn (lent dw.entry by.entry) (at + 1) (length (lent rd.entry rb.entry)) result }
+    requires { Left (lent dw.now by.now) at st (length (lent rd.old rb.old)) }
+    ensures { (rest_of (lent dw.now by.now) result (lent_buffer rd.new rb.new)
+        ≡ records_from (lent dw.now by.now) at st (lent_buffer rd.old rb.old))
+        × GoesOn (lent dw.now by.now) (at + 1) (length (lent rd.old rb.old)) result }
 {
     let d = word(dw, by, at);
     let chip = st.chip;
@@ -199,9 +199,9 @@ fn record_at(dw: &[u32], by: &[u8], at: usize, st: State, rd: &mut [u32], rb: &m
 
 // The second pass: the record of each command of a batch that passed.
 pub fn fill(target: Target, dw: &[u32], by: &[u8], rd: &mut [u32], rb: &mut [u8])
-    requires { Fits target (lent dw by) (length (lent rd rb)) }
-    ensures { lent_buffer rd.exit rb.exit
-        ≡ recorded put_in target (lent dw.entry by.entry) (lent_buffer rd.entry rb.entry) }
+    requires { Fits target (lent dw.now by.now) (length (lent rd.old rb.old)) }
+    ensures { lent_buffer rd.new rb.new
+        ≡ recorded put_in target (lent dw.now by.now) (lent_buffer rd.old rb.old) }
 {
     let mut at: usize = 0;
     let mut st = start(target);

@@ -33,9 +33,9 @@ fn judge(
     e: u32,
     c: Cursors,
 ) -> Judgement
-    requires { Running (lent rd rb) n objects states.now × SoundCursors (lent rd rb) n states.now c }
-    ensures { Judges (lent rd.entry rb.entry) n states.now
-        (verdict_of (objects_recorded (lent rd.entry rb.entry) n) states.now e) result }
+    requires { Running (lent rd.now rb.now) n objects states.now × SoundCursors (lent rd.now rb.now) n states.now c }
+    ensures { Judges (lent rd.now rb.now) n states.now
+        (verdict_of (objects_recorded (lent rd.now rb.now) n) states.now e) result }
 {
     let k = (e / 2) as usize;
     if objects <= k {
@@ -85,9 +85,9 @@ pub fn run(
     eb: &[u8],
     states: &mut [u8],
 ) -> RunEnd
-    requires { Running (lent rd rb) n objects states.old }
+    requires { Running (lent rd.now rb.now) n objects states.old }
     ensures { record { verdict = result.verdict; position = result.position; states = states.new }
-        ≡ run_from (objects_recorded (lent rd.entry rb.entry) n) (lent ed.entry eb.entry) 0 states.old }
+        ≡ run_from (objects_recorded (lent rd.now rb.now) n) (lent ed.now eb.now) 0 states.old }
 {
     let events = held(ed, eb);
     let mut i: usize = 0;

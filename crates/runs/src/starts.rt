@@ -61,8 +61,8 @@ pub fn unnamed(number: u32, cursors: Cursors) -> Judgement
 
 // Row 25 for a candidate that waits for the object of record r.
 fn named(rd: &[u32], rb: &[u8], c: Candidate, r: usize) -> Verdict
-    requires { RecordIn (lent rd rb) r × (word_at (lent rd rb) r 15 < 16384) }
-    ensures { result ≡ fault 25 (word_at (lent rd.entry rb.entry) r 15) (delta_to (lent rd.entry rb.entry) c r) }
+    requires { RecordIn (lent rd.now rb.now) r × (word_at (lent rd.now rb.now) r 15 < 16384) }
+    ensures { result ≡ fault 25 (word_at (lent rd.now rb.now) r 15) (delta_to (lent rd.now rb.now) c r) }
 {
     Verdict {
         number: 25,
@@ -109,10 +109,10 @@ fn waits(
     own: usize,
     c: Cursors,
 ) -> Judgement
-    requires { Known (lent rd rb) n states.now k × Holds (lent rd rb) n k own × (c.unfinished.object ≤ k)
-        × SoundCursors (lent rd rb) n states.now c }
-    ensures { Judges (lent rd.entry rb.entry) n states.now
-        (wait_verdict (objects_recorded (lent rd.entry rb.entry) n) states.now k) result }
+    requires { Known (lent rd.now rb.now) n states.now k × Holds (lent rd.now rb.now) n k own × (c.unfinished.object ≤ k)
+        × SoundCursors (lent rd.now rb.now) n states.now c }
+    ensures { Judges (lent rd.now rb.now) n states.now
+        (wait_verdict (objects_recorded (lent rd.now rb.now) n) states.now k) result }
 {
     if mask(rd, rb, own) == 0 {
         return unnamed(0, c);
@@ -146,10 +146,10 @@ fn nearest(c: Cursors, k: usize) -> Spot
 
 // Rows 24 and 25 for object k, which is in state 0.
 pub fn start(rd: &[u32], rb: &[u8], n: usize, states: &[u8], k: usize, c: Cursors) -> Judgement
-    requires { Known (lent rd rb) n states.now k × (state_at states.now k ≡ 0)
-        × SoundCursors (lent rd rb) n states.now c }
-    ensures { Judges (lent rd.entry rb.entry) n states.now
-        (start_verdict (objects_recorded (lent rd.entry rb.entry) n) states.now k) result }
+    requires { Known (lent rd.now rb.now) n states.now k × (state_at states.now k ≡ 0)
+        × SoundCursors (lent rd.now rb.now) n states.now c }
+    ensures { Judges (lent rd.now rb.now) n states.now
+        (start_verdict (objects_recorded (lent rd.now rb.now) n) states.now k) result }
 {
     let own = record_of(rd, rb, n, nearest(c, k), k);
     let mut w = c.waiting;

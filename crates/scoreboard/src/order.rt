@@ -45,9 +45,9 @@ pub fn order(
     rb: &mut [u8],
     states: &mut [u8],
 ) -> Answer
-    ensures { record { answer = result; records = lent_buffer rd.exit rb.exit; states = states.new }
-        ≡ buffer_order_of target (lent dw.entry by.entry) (lent ed.entry eb.entry)
-        (lent_buffer rd.entry rb.entry) states.old }
+    ensures { record { answer = result; records = lent_buffer rd.new rb.new; states = states.new }
+        ≡ buffer_order_of target (lent dw.now by.now) (lent ed.now eb.now)
+        (lent_buffer rd.old rb.old) states.old }
 {
     match decide(target, dw, by, held(rd, rb)) {
         Scanned::Stopped { number, place } => refused(number, place),

@@ -178,3 +178,5 @@ put_same (a ∷ b ∷ c ∷ []) k v h = let z : k < 0 = h in absurd (omega arith
 put_same (a ∷ b ∷ []) k v h = let z : k < 0 = h in absurd (omega arith)
 put_same (a ∷ []) k v h = let z : k < 0 = h in absurd (omega arith)
 put_same [] k v h = let z : k < 0 = h in absurd (omega arith)
+
+pub ruleset stores = (index_dwords, index_bytes, stored_dwords, stored_bytes)

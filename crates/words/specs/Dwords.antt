@@ -1,6 +1,5 @@
 -- Little-endian dwords in bytes, and a source that is dwords or bytes. Assumes nothing.
 use Rattle.std.specs.Prelude.{ℕ, ◌+◌, ◌*◌, ◌/◌, ◌%◌, ◌^◌, List, [], ◌∷◌, get_or, set}
-use Rattle.std.specs.Borrow.{Bor}
 
 -- the dword in the four bytes from an index on, the low byte first
 abbrev pub le_at : List ℕ → ℕ → ℕ
@@ -45,9 +44,9 @@ set_unless (b ∷ by) dw k v = dw
 abbrev pub put_in : Buffer → ℕ → ℕ → Buffer
 put_in r k v = record { dwords = set_unless r.bytes r.dwords k v; bytes = put_le r.bytes k v; view = set r.view k v }
 
--- In contracts: the dwords of a source that is lent, and a lent buffer, by their slices.
-abbrev pub lent : Bor (List ℕ) → Bor (List ℕ) → List ℕ
-lent dw by = dwords_in dw.now by.now
+-- In contracts: the dwords of a source that is lent, and a lent buffer, by what their slices hold.
+abbrev pub lent : List ℕ → List ℕ → List ℕ
+lent dw by = dwords_in dw by
 
-abbrev pub lent_buffer : Bor (List ℕ) → Bor (List ℕ) → Buffer
-lent_buffer dw by = buffer dw.now by.now
+abbrev pub lent_buffer : List ℕ → List ℕ → Buffer
+lent_buffer dw by = buffer dw by

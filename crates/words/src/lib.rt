@@ -19,8 +19,9 @@ fn le(by: &[u8], k: usize) -> u32
 }
 
 // How many dwords a source holds.
+#[tactic(auto, using(crate::proofs::Dwords::source))]
 pub fn held(dw: &[u32], by: &[u8]) -> usize
-    ensures { result ≡ length (lent dw.entry by.entry) }
+    ensures { result ≡ length (lent dw.now by.now) }
 {
     if by.len() == 0 {
         return dw.len();
@@ -29,9 +30,10 @@ pub fn held(dw: &[u32], by: &[u8]) -> usize
 }
 
 // Dword i of a source. The test is the same for every dword of a source, so that a loop makes it once.
+#[tactic(auto, using(crate::proofs::Dwords::source))]
 pub fn word(dw: &[u32], by: &[u8], i: usize) -> u32
-    requires { i < length (lent dw by) }
-    ensures { result ≡ get_or (lent dw.entry by.entry) i 0 }
+    requires { i < length (lent dw.now by.now) }
+    ensures { result ≡ get_or (lent dw.now by.now) i 0 }
 {
     if by.len() == 0 {
         return dw[i];
@@ -51,9 +53,10 @@ pub fn store(by: &mut [u8], k: usize, v: u32)
 }
 
 // Stores dword k of a lent buffer.
+#[tactic(auto, using(crate::proofs::Dwords::stores))]
 pub fn store_in(dw: &mut [u32], by: &mut [u8], k: usize, v: u32)
-    requires { k < length (lent dw by) }
-    ensures { lent_buffer dw.exit by.exit ≡ put_in (lent_buffer dw.entry by.entry) k v }
+    requires { k < length (lent dw.old by.old) }
+    ensures { lent_buffer dw.new by.new ≡ put_in (lent_buffer dw.old by.old) k v }
 {
     if by.len() == 0 {
         dw[k] = v;
