@@ -1,0 +1,5 @@
+use Rattle.progress.proofs.Leaves.{end_settled}
+use Rattle.progress.proofs.finish.Goals as goal
+
+pub returns : goal.returns
+returns c = end_settled _ _ _ c.requires.1 _ _ _ c.after-next.ensures c.write_record.ensures
