@@ -30,7 +30,7 @@ use Rattle.progress.proofs.Stages.{stage_stays, stage_run}
 use Rattle.progress.proofs.Fitted.{written_length, written_other, written_at}
 use Rattle.progress.proofs.Stops.{stop_read, stop_kept, stop_same}
 use Rattle.feed.specs.declared.Carried.{Carried}
-use Rattle.feed.specs.Feeding.{fresh, resumed, carried_by, Taken, Left, left, left_by, chunk_taken, refused_by, after_chunk, answer_at, usable, says_more, gives, answered, fed_of, Result, result, feed_of}
+use Rattle.feed.specs.Feeding.{fresh, resumed, carried_by, Taken, Left, left, left_by, chunk_taken, refused_by, after_chunk, answer_at, usable, says_more, gives, answered, fed_of, Result, result_of, feed_of}
 use Rattle.feed.specs.Counting.{dwords_after}
 use Rattle.feed.specs.Claims.{Call, call, made, leaves, leaves_all, calls, before_last, last_made, after_last, joined, end_within, kept_in, records_kept, Words, Cut, Earlier, Late, Said, NotLast, Unread, Numbered, SameCut, cut_at, last_of, lengths_of, chunks_of, Throughout, Chunked}
 use Rattle.feed.proofs.Counting.{take_chunk_lem}
@@ -43,11 +43,11 @@ module _ (chip capacity : ℕ) (c : Carried) (chunk : List ℕ) (last : Bool) (r
   abbrev after : Left
   after = after_chunk chip capacity c chunk r
 
-  fed_usable : usable c ≡ true → feed_of chip capacity c chunk last r ≡ result (fed_of last (length r) after.carried) after.records
+  fed_usable : usable c ≡ true → feed_of chip capacity c chunk last r ≡ result_of (fed_of last (length r) after.carried) after.records
   unfolding feed_of
   fed_usable u = simp u
 
-  fed_late : usable c ≡ false → feed_of chip capacity c chunk last r ≡ result (gives c (refused_answer 19 0)) r
+  fed_late : usable c ≡ false → feed_of chip capacity c chunk last r ≡ result_of (gives c (refused_answer 19 0)) r
   unfolding feed_of
   fed_late u = simp u
 
@@ -59,8 +59,8 @@ module _ (chip capacity : ℕ) (c : Carried) (chunk : List ℕ) (last : Bool) (r
   unfolding after_chunk
   after_none_named u = on_none (λ m p. left (refused_by m p c) r) (λ x. chunk_taken (target_of x capacity) c chunk r) chip u
 
-  by_after : usable c ≡ true → (x : Left) → after ≡ x → feed_of chip capacity c chunk last r ≡ result (fed_of last (length r) x.carried) x.records
-  by_after u x e = fed_usable u ∙ ap (λ (y : Left). result (fed_of last (length r) y.carried) y.records) e
+  by_after : usable c ≡ true → (x : Left) → after ≡ x → feed_of chip capacity c chunk last r ≡ result_of (fed_of last (length r) x.carried) x.records
+  by_after u x e = fed_usable u ∙ ap (λ (y : Left). result_of (fed_of last (length r) y.carried) y.records) e
 
 -- what a call that is not the last leaves
 more_leaves : (c : Carried) (n : ℕ) → (fed_of false n c).carried ≡ c
@@ -75,7 +75,7 @@ module _ (chip capacity : ℕ) (ch : Chip) (named : chip ≡ number_of ch) (r : 
     abbrev x : Left
     x = chunk_taken target w.carried chunk w.records
 
-    made_is : (last : Bool) → made w (call chip capacity chunk last) ≡ result (fed_of last (length w.records) x.carried) x.records
+    made_is : (last : Bool) → made w (call chip capacity chunk last) ≡ result_of (fed_of last (length w.records) x.carried) x.records
     made_is last =
         by_after chip capacity w.carried chunk last w.records (after_usable target r b w h) x (after_named chip capacity w.carried chunk last w.records ch named)
 
@@ -126,7 +126,7 @@ module _ (chip capacity : ℕ) (ch : Chip) (named : chip ≡ number_of ch) (r : 
   done : After tg r b y
   done = subst (λ (l : List ℕ). After tg r l y) (joined_last chunks last) (after_chunk_lem tg r (joined chunks []) w (before chip capacity ch named r chunks) last)
 
-  call_is : (final : Bool) → made w (call chip capacity last final) ≡ result (fed_of final (length w.records) y.carried) y.records
+  call_is : (final : Bool) → made w (call chip capacity last final) ≡ result_of (fed_of final (length w.records) y.carried) y.records
   call_is final = made_is chip capacity ch named r (joined chunks []) w (before chip capacity ch named r chunks) last final
 
   room : length w.records ≡ length r
@@ -182,7 +182,7 @@ module _ (chip capacity : ℕ) (none : Unnamed chip) (r : List ℕ) where
     pub same : w.records ≡ r
 
   module _ (w : Left) (h : Idle w) (chunk : List ℕ) where
-    none_made : (last : Bool) → made w (call chip capacity chunk last) ≡ result (fed_of last (length w.records) (refused_by 18 0 w.carried)) w.records
+    none_made : (last : Bool) → made w (call chip capacity chunk last) ≡ result_of (fed_of last (length w.records) (refused_by 18 0 w.carried)) w.records
     none_made last =
         by_after chip capacity w.carried chunk last w.records h.goes (left (refused_by 18 0 w.carried) w.records)
         (after_none_named chip capacity w.carried chunk last w.records none)
@@ -269,7 +269,7 @@ earlier chip capacity chunks chunk r =
 
 -- AFTER AN ANSWER
 module _ (w : Left) (u : usable w.carried ≡ false) where
-  refused_made : (c : Call) → made w c ≡ result (gives w.carried (refused_answer 19 0)) w.records
+  refused_made : (c : Call) → made w c ≡ result_of (gives w.carried (refused_answer 19 0)) w.records
   refused_made c = fed_late c.chip c.capacity w.carried c.chunk c.last w.records u
 
   refused_leaves : (c : Call) → leaves w c ≡ w
@@ -296,7 +296,7 @@ answer_closes w c q =
     k : Carried
     k = (after_chunk c.chip c.capacity w.carried c.chunk w.records).carried
 
-    taken : usable w.carried ≡ true → made w c ≡ result (fed_of c.last (length w.records) k) (after_chunk c.chip c.capacity w.carried c.chunk w.records).records
+    taken : usable w.carried ≡ true → made w c ≡ result_of (fed_of c.last (length w.records) k) (after_chunk c.chip c.capacity w.carried c.chunk w.records).records
     taken u = fed_usable c.chip c.capacity w.carried c.chunk c.last w.records u
 
     by_last : (t : Bool) → (fed_of t (length w.records) k).more ≡ 0 → usable (fed_of t (length w.records) k).carried ≡ false
@@ -390,7 +390,7 @@ module _ (w : Left) (c : Call) where
   abbrev k : Carried
   k = (after_chunk c.chip c.capacity w.carried c.chunk w.records).carried
 
-  taken : usable w.carried ≡ true → made w c ≡ result (fed_of c.last (length w.records) k) (after_chunk c.chip c.capacity w.carried c.chunk w.records).records
+  taken : usable w.carried ≡ true → made w c ≡ result_of (fed_of c.last (length w.records) k) (after_chunk c.chip c.capacity w.carried c.chunk w.records).records
   taken u = fed_usable c.chip c.capacity w.carried c.chunk c.last w.records u
 
   taken_number : usable w.carried ≡ true → NumberOf (made w c).fed.answer
@@ -454,9 +454,9 @@ module _ (w : Left) (h : Marked w) (c : Call) where
   still : (l : Left) → after_chunk c.chip c.capacity w.carried c.chunk w.records ≡ l → usable l.carried ≡ true → l.carried.stop ≡ 18
       → c.last ≡ false → Marked (leaves w c)
   still l e u s q =
-      let m : made w c ≡ result (fed_of false (length w.records) l.carried) l.records =
+      let m : made w c ≡ result_of (fed_of false (length w.records) l.carried) l.records =
       by_after c.chip c.capacity w.carried c.chunk c.last w.records h.goes l e
-      ∙ ap (λ (t : Bool). result (fed_of t (length w.records) l.carried) l.records) q in
+      ∙ ap (λ (t : Bool). result_of (fed_of t (length w.records) l.carried) l.records) q in
       record {
         goes = ap (λ (o : Result). usable o.fed.carried) m ∙ u;
         eighteenth = ap (λ (o : Result). o.fed.carried.stop) m ∙ s;
@@ -488,7 +488,7 @@ module _ (w : Left) (h : Marked w) (c : Call) where
       by_left l e s =
           ap (λ (o : Result). o.fed.answer)
           (by_after c.chip c.capacity w.carried c.chunk c.last w.records h.goes l e
-          ∙ ap (λ (t : Bool). result (fed_of t (length w.records) l.carried) l.records) q)
+          ∙ ap (λ (t : Bool). result_of (fed_of t (length w.records) l.carried) l.records) q)
           ∙ answers_eighteen l.carried s (length w.records)
 
 marked_all : (cs : List Call) (w : Left) → Marked w → NotLast cs → Marked (leaves_all w cs)
@@ -505,13 +505,13 @@ marks w c n e =
     by_last u m c.last refl (sym (ap (λ (o : Result). o.fed.more) m) ∙ e))
     (λ u. let z : ◌≡◌ {A = ℕ} 0 1 = sym (ap (λ (o : Result). o.fed.more) (refused_made w u c)) ∙ e in absurd (omega arith))
   where
-    by_last : usable w.carried ≡ true → made w c ≡ result (fed_of c.last (length w.records) (refused_by 18 0 w.carried)) w.records → (t : Bool) → c.last ≡ t
+    by_last : usable w.carried ≡ true → made w c ≡ result_of (fed_of c.last (length w.records) (refused_by 18 0 w.carried)) w.records → (t : Bool) → c.last ≡ t
         → (fed_of c.last (length w.records) (refused_by 18 0 w.carried)).more ≡ 1 → Marked (leaves w c)
     by_last u m true q f =
         let z : ◌≡◌ {A = ℕ} 0 1 = sym (ap (λ (t : Bool). (fed_of t (length w.records) (refused_by 18 0 w.carried)).more) q) ∙ f in absurd (omega arith)
     by_last u m false q f =
-        let o : made w c ≡ result (says_more (refused_by 18 0 w.carried)) w.records =
-        m ∙ ap (λ (t : Bool). result (fed_of t (length w.records) (refused_by 18 0 w.carried)) w.records) q in
+        let o : made w c ≡ result_of (says_more (refused_by 18 0 w.carried)) w.records =
+        m ∙ ap (λ (t : Bool). result_of (fed_of t (length w.records) (refused_by 18 0 w.carried)) w.records) q in
         record {
           goes = ap (λ (x : Result). usable x.fed.carried) o
               ∙ marked_usable 0 (refused_by 18 0 w.carried) (usable_open w.carried u) (usable_few w.carried u) refl;

@@ -31,7 +31,7 @@ use Rattle.command.specs.Kinds.{total_of, own_dwords}
 use Rattle.feed.specs.declared.Order.{Order}
 use Rattle.feed.specs.declared.Carried.{Carried}
 use Rattle.feed.specs.declared.Fed.{Fed}
-use Rattle.feed.specs.Feeding.{state_by, order_by, resumed, carried_by, taken, Left, left, left_by, chunk_taken, refused_by, after_chunk, answer_at, is_stop, read_of, goes_on, usable, gives, answered, fed_of, late_fed, result, feed_of}
+use Rattle.feed.specs.Feeding.{state_by, order_by, resumed, carried_by, taken, Left, left, left_by, chunk_taken, refused_by, after_chunk, answer_at, is_stop, read_of, goes_on, usable, gives, answered, fed_of, late_fed, result_of, feed_of}
 use Rattle.feed.specs.Counting.{read_count, dwords_after, InInlineData, passed_over}
 use Rattle.feed.proofs.Counting.{read_few, read_take, take_chunk_lem}
 
@@ -353,13 +353,13 @@ module _ (chip capacity : ℕ) (c : Carried) (l : List ℕ) (last : Bool) (r : L
   goes_usable e = sym eu ∙ e
 
   pub feed_taken : (c' : Carried) (r' : List ℕ) (f : Fed) → u ≡ true → length r' ≡ length r → left c' r' ≡ after_chunk chip capacity c l r
-      → f ≡ fed_of last (length r') c' → result f r' ≡ feed_of chip capacity c l last r
+      → f ≡ fed_of last (length r') c' → result_of f r' ≡ feed_of chip capacity c l last r
   unfolding feed_of
   feed_taken c' r' f e z es ef =
       simp (sym eu ∙ e)
-      (ap (λ (x : Fed). result x r') (ef ∙ ap (λ (n : ℕ). fed_of last n c') z)
-      ∙ ap (λ (x : Left). result (fed_of last (length r) x.carried) x.records) es)
+      (ap (λ (x : Fed). result_of x r') (ef ∙ ap (λ (n : ℕ). fed_of last n c') z)
+      ∙ ap (λ (x : Left). result_of (fed_of last (length r) x.carried) x.records) es)
 
-  pub feed_late : (f : Fed) → u ≡ false → f ≡ late_fed c → result f r ≡ feed_of chip capacity c l last r
+  pub feed_late : (f : Fed) → u ≡ false → f ≡ late_fed c → result_of f r ≡ feed_of chip capacity c l last r
   unfolding feed_of
-  feed_late f e ef = simp (sym eu ∙ e) (ap (λ (x : Fed). result x r) ef)
+  feed_late f e ef = simp (sym eu ∙ e) (ap (λ (x : Fed). result_of x r) ef)

@@ -13,7 +13,7 @@ use Rattle.batch.specs.Answers.{refused_answer, answer_of, records_of}
 use Rattle.progress.specs.Fitting.{written_fit}
 use Rattle.feed.specs.declared.Carried.{Carried}
 use Rattle.feed.specs.declared.Fed.{Fed}
-use Rattle.feed.specs.Feeding.{fresh, Left, left, gives, Result, result, feed_of}
+use Rattle.feed.specs.Feeding.{fresh, Left, left, gives, Result, result_of, feed_of}
 
 -- a call: what it is given beside the carried state and the record buffer
 pub record Call : Type 0 where
@@ -110,12 +110,12 @@ Complete target b more = end_within (length b) (reading_of target (b ++ more)).p
 -- changes neither the carried state nor the record buffer; and so does every call after it
 abbrev pub Late : Carried → Type 0
 Late c = (chip capacity : ℕ) (chunk : List ℕ) (last : Bool) (r : List ℕ)
-    → feed_of chip capacity c chunk last r ≡ result (gives c (refused_answer 19 0)) r
+    → feed_of chip capacity c chunk last r ≡ result_of (gives c (refused_answer 19 0)) r
 
 -- what any call says, from whatever carried state: the last answers; 19 changes nothing; after an answer there is 19 alone
 pub record Said (w : Left) (c : Call) : Type 0 where
   pub last : c.last ≡ true → (made w c).fed.more ≡ 0
-  pub refused : (made w c).fed.answer.number ≡ 19 → made w c ≡ result (gives w.carried (refused_answer 19 0)) w.records
+  pub refused : (made w c).fed.answer.number ≡ 19 → made w c ≡ result_of (gives w.carried (refused_answer 19 0)) w.records
   pub late : (made w c).fed.more ≡ 0 → Late (made w c).fed.carried
 
 -- calls of which none is the last

@@ -177,12 +177,12 @@ pub record Result : Type 0 where
   pub fed : Fed
   pub records : List ℕ
 
-abbrev pub result : Fed → List ℕ → Result
-result f r = record { fed = f; records = r }
+abbrev pub result_of : Fed → List ℕ → Result
+result_of f r = record { fed = f; records = r }
 
 -- A call. 19 is "checked before 18"; "A new refusal .. changes nothing lent".
 unfoldable pub feed_of : ℕ → ℕ → Carried → List ℕ → Bool → List ℕ → Result
 feed_of chip capacity c chunk last r =
     let l = after_chunk chip capacity c chunk r in
-    cond (usable c) (result (fed_of last (length r) l.carried) l.records)
-    (result (late_fed c) r)
+    cond (usable c) (result_of (fed_of last (length r) l.carried) l.records)
+    (result_of (late_fed c) r)

@@ -3,7 +3,7 @@
 
 ghost use Rattle.std.specs.Prelude.{◌≡◌, ◌+◌, ◌^◌, ◌<◌, true};
 ghost use Rattle.feed.specs.Feeding.{state_by, order_by, resumed, carried_by, is_stop, read_of, goes_on, usable, refused_by};
-ghost use Rattle.feed.specs.Feeding.{left, chunk_taken, after_chunk, answer_at, answered, fed_of, late_fed, result, feed_of};
+ghost use Rattle.feed.specs.Feeding.{left, chunk_taken, after_chunk, answer_at, answered, fed_of, late_fed, result_of, feed_of};
 ghost use Rattle.feed.specs.Counting.{read_count, dwords_after, InInlineData, passed_over};
 
 use batch::{Answer, accepted, refused};
@@ -56,7 +56,7 @@ pub struct Fed {
 
 // What the commands passed have set, for the chip and the capacity that the call names.
 fn state_by(target: Target, o: Order) -> State
-    ensures* { λ r. ⌜ r ≡ state_by target o ⌝ }
+    ensures { result ≡ state_by target o }
 {
     let chip = target.chip;
     State {
@@ -76,7 +76,7 @@ fn state_by(target: Target, o: Order) -> State
 }
 
 fn order_by(st: State) -> Order
-    ensures* { λ r. ⌜ r ≡ order_by st ⌝ }
+    ensures { result ≡ order_by st }
 {
     Order {
         earlier_vfe: st.earlier_vfe,
@@ -94,7 +94,7 @@ fn order_by(st: State) -> Order
 
 // How far the reading has come.
 fn resume(target: Target, c: Carried) -> Progress
-    ensures* { λ r. ⌜ r ≡ resumed target c ⌝ }
+    ensures { result ≡ resumed target c }
 {
     let order = c.order;
     let own = c.own;
@@ -110,7 +110,7 @@ fn resume(target: Target, c: Carried) -> Progress
 
 // The carried state of a reading after so many dwords, before an answer.
 fn carry(dwords: u32, p: Progress) -> Carried
-    ensures* { λ r. ⌜ r ≡ carried_by dwords p ⌝ }
+    ensures { result ≡ carried_by dwords p }
 {
     let st = p.st;
     let own = p.own;
@@ -128,7 +128,7 @@ fn carry(dwords: u32, p: Progress) -> Carried
 
 // Is it how reading can have stopped?
 fn is_stop(n: u32) -> bool
-    ensures* { λ r. ⌜ r ≡ is_stop n ⌝ }
+    ensures { result ≡ is_stop n }
 {
     if n == 18 {
         return true;
@@ -144,7 +144,7 @@ fn is_stop(n: u32) -> bool
 
 // How many dwords have been read.
 fn read_of(dwords: u32) -> u32
-    ensures* { λ r. ⌜ r ≡ read_of dwords ⌝ }
+    ensures { result ≡ read_of dwords }
 {
     if 16384 < dwords {
         return 16384;
@@ -154,7 +154,7 @@ fn read_of(dwords: u32) -> u32
 
 // Can a reading that goes on have come so far?
 fn goes_on(c: Carried) -> bool
-    ensures* { λ r. ⌜ r ≡ goes_on c ⌝ }
+    ensures { result ≡ goes_on c }
 {
     let order = c.order;
     let read = read_of(c.dwords);
@@ -172,7 +172,7 @@ fn goes_on(c: Carried) -> bool
 
 // May a call go on from it?
 fn is_usable(c: Carried) -> bool
-    ensures* { λ r. ⌜ r ≡ usable c ⌝ }
+    ensures { result ≡ usable c }
 {
     if c.answered != 0 {
         return false;
@@ -188,7 +188,7 @@ fn is_usable(c: Carried) -> bool
 
 // How many of n dwords are among the first 16,384, after so many.
 fn readable(dwords: u32, n: usize) -> usize
-    ensures* { λ r. ⌜ r ≡ read_count dwords n ⌝ }
+    ensures { result ≡ read_count dwords n }
 {
     if 16384 < dwords {
         return 0;
@@ -202,7 +202,7 @@ fn readable(dwords: u32, n: usize) -> usize
 
 // How many dwords have come after n more: 16,385 for any more.
 fn counted(dwords: u32, n: usize) -> u32
-    ensures* { λ r. ⌜ r ≡ dwords_after dwords n ⌝ }
+    ensures { result ≡ dwords_after dwords n }
 {
     if 16384 < dwords {
         return 16385;
@@ -217,7 +217,7 @@ fn counted(dwords: u32, n: usize) -> u32
 // Are the next n dwords inline data of the OBJECT that is not whole yet, which needs more, and all among the first 16,384?
 fn in_inline_data(chip: Chip, c: Carried, n: usize) -> bool
     requires { usable c ≡ true }
-    ensures* { λ r. ⌜ (r ≡ true → InInlineData chip c n) ⌝ }
+    ensures { (result ≡ true → InInlineData chip c n) }
 {
     let own = c.own;
     let d = own[0];
@@ -239,7 +239,7 @@ fn in_inline_data(chip: Chip, c: Carried, n: usize) -> bool
 // They are counted, and nothing else.
 fn pass_over(c: Carried, n: usize) -> Carried
     requires { (c.got + n < 2 ^ 32) × (c.dwords + n < 2 ^ 32) }
-    ensures* { λ r. ⌜ r ≡ passed_over c n ⌝ }
+    ensures { result ≡ passed_over c n }
 {
     let mut next = c;
     next.got = c.got + n as u32;
@@ -250,7 +250,7 @@ fn pass_over(c: Carried, n: usize) -> Carried
 // After a chunk, for a known chip: the dwords among the first 16,384 are read.
 fn take(target: Target, c: Carried, chunk: &[u32], records: &mut [u32]) -> Carried
     requires { usable c ≡ true }
-    ensures* { λ r. ⌜ left r records.new ≡ chunk_taken target c chunk.now records.old ⌝ }
+    ensures { left result records.new ≡ chunk_taken target c chunk.now records.old }
 {
     let chip = target.chip;
     if in_inline_data(chip, c, chunk.len()) {
@@ -264,7 +264,7 @@ fn take(target: Target, c: Carried, chunk: &[u32], records: &mut [u32]) -> Carri
 
 // 18: a chunk for no chip is not read.
 fn refuse(number: u32, place: u32, c: Carried) -> Carried
-    ensures* { λ r. ⌜ r ≡ refused_by number place c ⌝ }
+    ensures { result ≡ refused_by number place c }
 {
     let mut next = c;
     next.stop = number;
@@ -275,7 +275,7 @@ fn refuse(number: u32, place: u32, c: Carried) -> Carried
 // After a chunk.
 fn after_chunk(chip: u32, capacity: u32, c: Carried, chunk: &[u32], records: &mut [u32]) -> Carried
     requires { usable c ≡ true }
-    ensures* { λ r. ⌜ left r records.new ≡ after_chunk chip capacity c chunk.now records.old ⌝ }
+    ensures { left result records.new ≡ after_chunk chip capacity c chunk.now records.old }
 {
     match chip_named(chip) {
         Named::Unknown => refuse(18, 0, c),
@@ -285,7 +285,7 @@ fn after_chunk(chip: u32, capacity: u32, c: Carried, chunk: &[u32], records: &mu
 
 // The answer after the last chunk, to a record buffer of so many words.
 fn answer(c: Carried, room: usize) -> Answer
-    ensures* { λ r. ⌜ r ≡ answer_at room c ⌝ }
+    ensures { result ≡ answer_at room c }
 {
     let order = c.order;
     if c.stop == 18 {
@@ -311,7 +311,7 @@ fn answer(c: Carried, room: usize) -> Answer
 
 // An answer was given.
 fn close(c: Carried) -> Carried
-    ensures* { λ r. ⌜ r ≡ answered c ⌝ }
+    ensures { result ≡ answered c }
 {
     let mut next = c;
     next.answered = 1;
@@ -320,7 +320,7 @@ fn close(c: Carried) -> Carried
 
 // What a call says: "more", or after the last chunk the answer.
 fn say(c: Carried, last: bool, room: usize) -> Fed
-    ensures* { λ r. ⌜ r ≡ fed_of last room c ⌝ }
+    ensures { result ≡ fed_of last room c }
 {
     if last {
         return Fed {
@@ -338,7 +338,7 @@ fn say(c: Carried, last: bool, room: usize) -> Fed
 
 // 19: a chunk offered after an answer was given.
 fn late(c: Carried) -> Fed
-    ensures* { λ r. ⌜ r ≡ late_fed c ⌝ }
+    ensures { result ≡ late_fed c }
 {
     Fed {
         carried: c,
@@ -357,7 +357,7 @@ pub fn feed(
     capacity: u32,
     records: &mut [u32],
 ) -> Fed
-    ensures* { λ r. ⌜ result r records.new ≡ feed_of chip capacity carried chunk.now last records.old ⌝ }
+    ensures { result_of result records.new ≡ feed_of chip capacity carried chunk.now last records.old }
 {
     if is_usable(carried) {
         let next = after_chunk(chip, capacity, carried, chunk, records);

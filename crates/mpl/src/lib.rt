@@ -4,7 +4,7 @@
 ghost use Rattle.std.specs.Prelude.{◌≡◌, not, eqb};
 ghost use Rattle.deltas.specs.InPlay.{in_play, counted};
 ghost use Rattle.batch.specs.Answers.{answer_of, records_of, bytes_answer_of, bytes_records_of};
-ghost use Rattle.feed.specs.Feeding.{result, feed_of};
+ghost use Rattle.feed.specs.Feeding.{result_of, feed_of};
 ghost use Rattle.scoreboard.specs.Answers.{order_of, bytes_order_of};
 ghost use Rattle.gateway.specs.Replay.{replay_of};
 
@@ -16,8 +16,8 @@ pub extern "C" fn mpl_check_batch(
     capacity: u32,
     records: &mut [u8],
 ) -> batch::Answer
-    ensures* { λ r. ⌜ (r ≡ bytes_answer_of chip capacity batch.now records.old)
-        × (records.new ≡ bytes_records_of chip capacity batch.now records.old) ⌝ }
+    ensures { (result ≡ bytes_answer_of chip capacity batch.now records.old)
+        × (records.new ≡ bytes_records_of chip capacity batch.now records.old) }
 {
     batch::check_bytes(chip, batch, capacity, records)
 }
@@ -30,8 +30,8 @@ pub extern "C" fn mpl_check_batch_dwords(
     capacity: u32,
     records: &mut [u32],
 ) -> batch::Answer
-    ensures* { λ r. ⌜ (r ≡ answer_of chip capacity batch.now records.old)
-        × (records.new ≡ records_of chip capacity batch.now records.old) ⌝ }
+    ensures { (result ≡ answer_of chip capacity batch.now records.old)
+        × (records.new ≡ records_of chip capacity batch.now records.old) }
 {
     batch::check(chip, batch, capacity, records)
 }
@@ -46,8 +46,8 @@ pub extern "C" fn mpl_feed(
     capacity: u32,
     records: &mut [u32],
 ) -> feed::Fed
-    ensures* { λ r. ⌜ result r records.new
-        ≡ feed_of chip capacity carried chunk.now (not (eqb last 0)) records.old ⌝ }
+    ensures { result_of result records.new
+        ≡ feed_of chip capacity carried chunk.now (not (eqb last 0)) records.old }
 {
     feed::feed(chip, carried, chunk, last != 0, capacity, records)
 }
@@ -59,7 +59,7 @@ pub extern "C" fn mpl_deltas_in_play(
     vfe_dword_5: u32,
     object_dword_5: u32,
 ) -> deltas::InPlay
-    ensures* { λ r. ⌜ r ≡ counted (in_play object_dword_2 vfe_dword_5 object_dword_5) ⌝ }
+    ensures { result ≡ counted (in_play object_dword_2 vfe_dword_5 object_dword_5) }
 {
     deltas::in_play::deltas_in_play(object_dword_2, vfe_dword_5, object_dword_5)
 }
@@ -74,8 +74,8 @@ pub extern "C" fn mpl_check_order(
     records: &mut [u8],
     states: &mut [u8],
 ) -> scoreboard::Answer
-    ensures* { λ r. ⌜ record { answer = r; records = records.new; states = states.new }
-        ≡ bytes_order_of chip capacity batch.now run.now records.old states.old ⌝ }
+    ensures { record { answer = result; records = records.new; states = states.new }
+        ≡ bytes_order_of chip capacity batch.now run.now records.old states.old }
 {
     scoreboard::check_bytes(chip, batch, capacity, run, records, states)
 }
@@ -90,8 +90,8 @@ pub extern "C" fn mpl_check_order_dwords(
     records: &mut [u32],
     states: &mut [u8],
 ) -> scoreboard::Answer
-    ensures* { λ r. ⌜ record { answer = r; records = records.new; states = states.new }
-        ≡ order_of chip capacity batch.now run.now records.old states.old ⌝ }
+    ensures { record { answer = result; records = records.new; states = states.new }
+        ≡ order_of chip capacity batch.now run.now records.old states.old }
 {
     scoreboard::check(chip, batch, capacity, run, records, states)
 }
@@ -104,8 +104,8 @@ pub extern "C" fn mpl_replay(
     counts: &mut [u32],
     outcomes: &mut [u8],
 ) -> gateway::Replayed
-    ensures* { λ r. ⌜ record { answer = r; registers = registers.new; counts = counts.new; outcomes = outcomes.new }
-        ≡ replay_of recording.now registers.old counts.old outcomes.old ⌝ }
+    ensures { record { answer = result; registers = registers.new; counts = counts.new; outcomes = outcomes.new }
+        ≡ replay_of recording.now registers.old counts.old outcomes.old }
 {
     gateway::replay(recording, registers, counts, outcomes)
 }
