@@ -26,6 +26,7 @@ fn one_more_if(counts: &mut [u32], k: usize, b: bool)
 }
 
 // The notification of a forward.
+#[tactic(auto, using(crate::proofs::CountLaws::notified_twice), unfolding(crate::specs::Effects::notified))]
 pub fn notify(counts: &mut [u32], to: usize, notify: u32)
     requires { (2 * to + 1 < length counts.old) × (length counts.old ≤ 32) × ((k : ℕ) → get_or counts.old k 0 < 4294967295) }
     ensures { counts.new ≡ notified to notify counts.old }
@@ -61,6 +62,7 @@ pub fn settle(setup: Setup, releases: &[u32], counts: &mut [u32])
 }
 
 // The acknowledgement of an event with this head and outcome.
+#[tactic(auto, unfolding(crate::specs::Effects::with_ack))]
 pub fn acknowledge(h: Head, outcome: u8, registers: &mut [u8])
     requires { acknowledged h outcome ≡ true → ack_place h + 4 ≤ length registers.old }
     ensures { registers.new ≡ with_ack h outcome registers.old }

@@ -11,6 +11,7 @@ use event::outcomes::{gateway_left, gateway_outcome};
 use event::{Gateway, Head, Setup};
 
 // Thread t's gateway. Above the sixteen threads there is none, which is a closed one.
+#[tactic(auto, using(crate::proofs::GatewayWords::gateway_at_lem, crate::proofs::GatewayWords::no_gateway))]
 pub fn gateway(words: &[u32], t: usize) -> Gateway
     requires { length words.now ≡ 64 }
     ensures { result ≡ gateway_at (gateways_in words.now) t }
@@ -31,6 +32,7 @@ pub fn gateway(words: &[u32], t: usize) -> Gateway
     }
 }
 
+#[tactic(auto, using(crate::proofs::GatewayWords::gateway_stored))]
 fn set_gateway(words: &mut [u32], t: usize, gate: Gateway)
     requires { (length words.old ≡ 64) × (t < 16) }
     ensures { gateways_in words.new ≡ set (gateways_in words.old) t gate }

@@ -6,6 +6,7 @@ ghost use Rattle.event.specs.Outcomes.{ack_malformed, malformed};
 use crate::Head;
 
 // Does an event's acknowledgement count?
+#[tactic(auto, using(crate::proofs::Tests::tests), unfolding(crate::specs::Outcomes::counted_ack))]
 pub fn counted_ack(h: Head) -> bool
     ensures { result ≡ counted_ack h.kind h }
 {
@@ -35,12 +36,14 @@ fn one_if(b: bool) -> u64
 }
 
 // What any event is held against, joined into a number: one branch for the three.
+#[tactic(auto, using(crate::proofs::Joined::three_nonzero), unfolding(crate::specs::Outcomes::common_malformed))]
 fn common_faults(h: Head, threads: usize) -> u64
     ensures { not (eqb result 0) ≡ common_malformed h threads }
 {
     h.padding | h.stray as u64 | one_if(threads <= h.sender)
 }
 
+#[tactic(auto, using(crate::proofs::Tests::tests), unfolding(crate::specs::Outcomes::end_malformed))]
 fn end_malformed(h: Head) -> bool
     ensures { result ≡ end_malformed h.kind h }
 {
@@ -56,6 +59,7 @@ fn end_malformed(h: Head) -> bool
     h.kind != 1
 }
 
+#[tactic(auto, using(crate::proofs::Tests::tests), unfolding(crate::specs::Outcomes::forward_malformed))]
 fn forward_malformed(h: Head) -> bool
     ensures { result ≡ forward_malformed h.kind h }
 {
@@ -71,6 +75,7 @@ fn forward_malformed(h: Head) -> bool
     8191 < h.place
 }
 
+#[tactic(auto, using(crate::proofs::Tests::tests), unfolding(crate::specs::Outcomes::open_malformed))]
 fn open_malformed(h: Head) -> bool
     ensures { result ≡ open_malformed h.kind h }
 {
@@ -86,6 +91,7 @@ fn open_malformed(h: Head) -> bool
     5 < h.code
 }
 
+#[tactic(auto, using(crate::proofs::Tests::tests), unfolding(crate::specs::Outcomes::ack_malformed))]
 fn ack_malformed(h: Head) -> bool
     ensures { result ≡ ack_malformed h.kind h }
 {
@@ -96,6 +102,7 @@ fn ack_malformed(h: Head) -> bool
 }
 
 // Is an event malformed?
+#[tactic(auto, using(crate::proofs::Joined::joined, crate::proofs::Tests::tests))]
 pub fn is_malformed(h: Head, threads: usize) -> bool
     ensures { result ≡ malformed h.kind h threads }
 {
@@ -124,6 +131,7 @@ pub fn is_malformed(h: Head, threads: usize) -> bool
 }
 
 // The same of an event of a kind that is not served, or of none.
+#[tactic(auto, using(crate::proofs::Joined::other_joined))]
 pub fn other_malformed(h: Head, threads: usize) -> bool
     requires { Unserved h.kind }
     ensures { result ≡ malformed h.kind h threads }

@@ -18,6 +18,7 @@ pub fn count(code: u32) -> u32
 }
 
 // A forward's.
+#[tactic(auto, using(crate::proofs::Tests::tests), unfolding(crate::specs::Outcomes::decision_of, crate::specs::Outcomes::decided_of, crate::specs::Outcomes::outcome_of))]
 pub fn forward_outcome(h: Head, setup: Setup, gate: Gateway) -> u8
     requires kind_value { h.kind ≡ 2 }
     requires window { Window gate }
@@ -47,6 +48,7 @@ pub fn forward_outcome(h: Head, setup: Setup, gate: Gateway) -> u8
     0
 }
 
+#[tactic(auto, using(crate::proofs::Tests::tests), unfolding(crate::specs::Outcomes::decision_of, crate::specs::Outcomes::decided_of, crate::specs::Outcomes::outcome_of))]
 fn open_outcome(h: Head, setup: Setup) -> u8
     requires { h.kind ≡ 0 }
     ensures { result ≡ outcome_of (decision_alone h setup) }
@@ -66,6 +68,7 @@ fn open_outcome(h: Head, setup: Setup) -> u8
     0
 }
 
+#[tactic(auto, using(crate::proofs::Tests::tests), unfolding(crate::specs::Outcomes::decision_of, crate::specs::Outcomes::decided_of, crate::specs::Outcomes::outcome_of))]
 fn close_outcome(h: Head, setup: Setup) -> u8
     requires { h.kind ≡ 1 }
     ensures { result ≡ outcome_of (decision_alone h setup) }
@@ -113,6 +116,7 @@ pub fn gateway_left(h: Head) -> Gateway
 }
 
 // An update's.
+#[tactic(auto, using(crate::proofs::Tests::tests), unfolding(crate::specs::Outcomes::decision_of, crate::specs::Outcomes::decided_of, crate::specs::Outcomes::outcome_of))]
 pub fn update_outcome(h: Head, setup: Setup) -> u8
     requires { h.kind ≡ 5 }
     ensures { result ≡ outcome_of (decision_alone h setup) }
@@ -124,6 +128,7 @@ pub fn update_outcome(h: Head, setup: Setup) -> u8
 }
 
 // The outcome of a kind that is not served, or is none.
+#[tactic(auto, using(crate::proofs::Tests::tests), unfolding(crate::specs::Outcomes::decision_of, crate::specs::Outcomes::decided_of, crate::specs::Outcomes::outcome_of))]
 pub fn other_outcome(h: Head, setup: Setup) -> u8
     requires { Unserved h.kind }
     ensures { result ≡ outcome_of (decision_alone h setup) }

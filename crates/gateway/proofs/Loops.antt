@@ -6,7 +6,6 @@ use native.Mathlib.Nat.{add-sub_cancel_left}
 use native.Mathlib.Numerals.{add-one}
 use native.Mathlib.Omega.{arith}
 use lib.ListN.{length, get_or, set, take, drop, replicate, length-set, length-take, length-drop}
-use Rattle.laws.specs.Filled.{filled}
 use Rattle.laws.proofs.Filled.{filled_same}
 use Rattle.event.specs.declared.Setup.{Setup}
 use Rattle.event.specs.Groups.{Grouped}
@@ -18,6 +17,7 @@ use Rattle.barriers.specs.Barriers.{waiting_of, waiting_in, waits_in}
 use Rattle.barriers.proofs.MemberMasks.{mask_at}
 use Rattle.barriers.proofs.Waits.{none_yet, nobody, replicated}
 use Rattle.recording.specs.Recording.{threads_of, event_at}
+use Rattle.gateway.specs.declared.Barrier.{Barrier}
 use Rattle.gateway.specs.declared.Replayed.{Replayed}
 use Rattle.gateway.specs.Replay.{State, World, step_of, run_of, start_over, barrier_of, empty_barrier, barriers_of, Replay, ended}
 use Rattle.gateway.specs.Steps.{Held, held, state_in, world_in, Stepped, Ran, barriers_from, answer_from}
@@ -80,6 +80,10 @@ part_is rec t i e =
 
 pub part_long : (rec : List ℕ) (a : ℕ) → a + 48 ≤ length rec → length (take (a + 48 - a) (drop a rec)) ≡ 48
 part_long rec a h = simp (length-take, length-drop) (omega arith)
+
+-- barrier b's byte and who waits at it
+abbrev pub joined : List ℕ → List ℕ → ℕ → Barrier
+joined bytes waiting b = record { byte = get_or bytes b 0; waiting = get_or waiting b 0 }
 
 -- the barriers of the answer are made of bytes and masks
 barriers_are : (s : Setup) (w : State) → barriers_from w.bytes (waiting_in s w.waits) ≡ barriers_of s w

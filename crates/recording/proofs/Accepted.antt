@@ -5,7 +5,7 @@ use mathlib.Core.List.{List, ◌++◌}
 use Prim.Native.Nat.{ℕ, ◌+◌, ◌*◌, ◌-◌, ◌≤◌, ◌<◌}
 use native.Mathlib.Omega.{arith}
 use lib.Dec.{ltb}
-use lib.ListN.{length, get_or, take, drop, replicate, length-append, length-replicate, length-take, length-drop, get_or-append}
+use lib.ListN.{length, take, drop, replicate, length-append, length-replicate, length-take, length-drop, get_or-append}
 use lib.Seq.{get_or-take, get_or-drop}
 use borrow.Author.Tests.{ltb-false, eqb-true, ne_eqb, not-false}
 use Rattle.laws.specs.Rows.{Row}

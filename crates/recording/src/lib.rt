@@ -39,6 +39,7 @@ fn stray_group(recording: &[u8], threads: usize) -> usize
 }
 
 // Rows 14 to 16, of a recording whose header passes.
+#[tactic(auto, using(event::proofs::Tests::tests), unfolding(crate::specs::Recording::length_refusal_of))]
 fn length_refusal(recording: &[u8], registers: usize, counts: usize, outcomes: usize) -> u32
     requires { (10 ≤ length recording.now) × (threads_of recording.now ≤ 16) }
     ensures { result ≡ length_refusal_of recording.now registers counts outcomes }
@@ -64,6 +65,7 @@ fn length_refusal(recording: &[u8], registers: usize, counts: usize, outcomes: u
 }
 
 // Why a recording is refused, or 0. The lent buffers count by their lengths.
+#[tactic(auto, using(event::proofs::Tests::tests), unfolding(crate::specs::Recording::refusal_of, crate::specs::Recording::length_refusal_of))]
 pub fn refusal(recording: &[u8], registers: usize, counts: usize, outcomes: usize) -> u32
     ensures { result ≡ refusal_of recording.now registers counts outcomes }
 {
@@ -106,6 +108,7 @@ fn groups(recording: &[u8], threads: usize) -> [u8; 16]
 }
 
 // What the header says of every event.
+#[tactic(auto, using(crate::proofs::Header::setup_made))]
 pub fn setup(recording: &[u8]) -> Setup
     requires { (10 ≤ length recording.now) × (threads_of recording.now ≤ 16)
         × (10 + threads_of recording.now ≤ length recording.now) }

@@ -1,56 +1,37 @@
 -- Numbers and names as the code has them are those of the text. Assumes nothing.
-use mathlib.Core.Path.{◌≡◌, refl, ap, ap₂, ◌∙◌}
-use mathlib.Core.Bool.{Bool, true, false}
-use mathlib.Core.List.{List, [], ◌∷◌, ◌++◌}
-use Prim.Native.Nat.{ℕ, zero, suc, ◌+◌, ◌*◌, ◌-◌, ◌/◌, ◌%◌, ◌^◌, ◌≤◌, ◌<◌}
-use native.Mathlib.Nat.{pow-suc, pow-le-pow_right, one-le-pow}
-use native.Mathlib.Omega.{arith}
-use lib.ListN.{length, take, drop}
-use lib.Seq.{take-length}
-use lib.Dec.{ltb}
-use borrow.Author.Tests.{lt-ltb, le-ltb, ltb-true, ltb-false}
-use Rattle.io.specs.Digits.{last_digits, hex_digit_ascii, IsDigitCount}
+use Rattle.std.proofs.Common.{◌≡◌, refl, sym, List, [], ◌∷◌, ◌++◌, ℕ, zero, suc, ◌+◌, ◌*◌, ◌-◌, ◌/◌, ◌%◌, ◌^◌, ◌≤◌, ◌<◌, arith, length, take, drop, set, append_assoc, append-nil, lt-ltb, le-ltb, pow-suc, add-one}
+use Rattle.std.proofs.lemmas.List.{drop-set}
+use Rattle.std.proofs.Math.ListN.{drop_of_length-le}
 use Rattle.text.specs.Lines.{spell, number_of, name_of}
 
-glyph_is : (d : ℕ) → d < 10 → hex_digit_ascii d ≡ 48 + d
-glyph_is d h = simp lt-ltb
-
-same : (f k n : ℕ) → k ≤ f → n < 10 ^ suc k → (1 ≤ k → 10 ^ k ≤ n) → last_digits 10 (suc k) n ≡ spell (suc f) n
-unfolding spell
-same f zero n l h g =
-    let p : n < 10 = h in
-    let q : n % 10 ≡ n = omega arith in
-    simp (lt-ltb n 10 p, q)
-same zero (suc k) n l h g = absurd (omega arith)
-same (suc f) (suc k) n l h g =
-    let e : 10 ^ suc (suc k) ≡ 10 ^ suc k * 10 = pow-suc 10 (suc k) in
-    let e2 : 10 ^ suc k ≡ 10 ^ k * 10 = pow-suc 10 k in
-    let o : 1 ≤ 10 ^ k = one-le-pow k 10 (omega arith) in
-    let b : 10 ^ suc k ≤ n = g (omega arith) in
-    let p : 10 ≤ n = omega arith in
-    let ih = same f k (n / 10) (omega arith) (omega arith) (λ _. omega arith) in
-    let z : ltb n 10 ≡ false = le-ltb n 10 p in
-    rw z (ap₂ (λ (a : List ℕ) (x : ℕ). a ++ (x ∷ [])) ih (glyph_is (n % 10) (omega arith)))
-
-decimal_is : (n k : ℕ) → IsDigitCount 10 1 n k → k ≤ 20 → last_digits 10 k n ≡ number_of n
+-- A number's text is the digits of what is left of it, and then those that stand already. At first none stands.
+pub begun : (n : ℕ) (l : List ℕ) → length l ≡ 20 → number_of n ≡ spell 20 n ++ drop 20 l
 unfolding number_of
-decimal_is n zero f l = absurd (omega arith)
-decimal_is n (suc k) f l = let e : suc k - 1 ≡ k = omega arith in same 19 k n (omega arith) f.1 (λ h. rw e at (f.2 (omega arith)))
+begun n l h = rw (drop_of_length-le l {i = 20} (omega arith)) (sym (append-nil (spell 20 n)))
 
--- a number of 64 bits has no more than 20 digits
-pub twenty : (n k : ℕ) → IsDigitCount 10 1 n k → n < 2 ^ 64 → k ≤ 20
-twenty n k f h = go (ltb 20 k) refl
-  where
-    go : (t : Bool) → ltb 20 k ≡ t → k ≤ 20
-    go false e = ltb-false 20 k e
-    go true e =
-        let p = ltb-true 20 k e in
-        let g : 10 ^ (k - 1) ≤ n = f.2 (omega arith) in
-        let m : 10 ^ 20 ≤ 10 ^ (k - 1) = let l : 20 ≤ k - 1 = omega arith in pow-le-pow_right (omega arith) l in absurd (omega arith)
+-- what is left takes a place less with each digit
+pub left : (r f : ℕ) → 10 ≤ r → r < 10 ^ f → (1 < f) × (r / 10 < 10 ^ (f - 1))
+left r zero h b = absurd (omega arith)
+left r (suc zero) h b = absurd (omega arith)
+left r (suc (suc f)) h b = let e : 10 ^ suc (suc f) ≡ 10 ^ suc f * 10 = pow-suc 10 (suc f) in let g : suc (suc f) - 1 ≡ suc f = omega arith in (omega arith, rw g (omega arith))
 
--- the text of a number, as io leaves it in an array of 20 bytes
-pub spelt : (n k : ℕ) (l : List ℕ) → k ≡ length (take k l) → k ≤ 20 → IsDigitCount 10 1 n k → take k l ≡ last_digits 10 k n → take k (take k l) ≡ number_of n
-spelt n k l e h f q = ap (λ (m : ℕ). take m (take k l)) e ∙ take-length (take k l) ∙ q ∙ decimal_is n k f h
+-- the last digit of what is left
+pub digit_more : (r f : ℕ) (l : List ℕ) → 10 ≤ r → 0 < f → f ≤ length l → spell f r ++ drop f l ≡ spell (f - 1) (r / 10) ++ drop (f - 1) (set l (f - 1) (48 + r % 10))
+unfolding spell
+digit_more r zero l h p q = absurd (omega arith)
+digit_more r (suc k) l h p q =
+    let e : suc k - 1 ≡ k = omega arith in
+    let d = drop-set l k (48 + r % 10) (omega arith) in
+    rw (e, le-ltb r 10 h, d, add-one k) (append_assoc (spell k (r / 10)) ((48 + r % 10) ∷ []) (drop (suc k) l))
+
+-- the first digit
+pub digit_first : (r f : ℕ) (l : List ℕ) → r < 10 → 0 < f → f ≤ length l → spell f r ++ drop f l ≡ drop (f - 1) (set l (f - 1) (48 + r))
+unfolding spell
+digit_first r zero l h p q = absurd (omega arith)
+digit_first r (suc k) l h p q =
+    let e : suc k - 1 ≡ k = omega arith in
+    let d = drop-set l k (48 + r) (omega arith) in
+    rw (e, lt-ltb r 10 h, d, add-one k)
 
 -- the names in one row
 abbrev letters : List ℕ

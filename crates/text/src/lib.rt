@@ -26,13 +26,29 @@ fn byte(text: &mut [u8], at: usize, b: u8) -> usize
     at + 1
 }
 
+// The decimal digits of n, at the end of an array that has room for those of 64 bits, and the index of the first.
+fn decimal(n: u64, digits: &mut [u8; 20]) -> usize
+    ensures { (drop result digits.new ≡ number_of n) × (result < 20) }
+{
+    let mut rest = n;
+    let mut first = 20;
+    while 10 <= rest {
+        first -= 1;
+        digits[first] = b'0' + (rest % 10) as u8;
+        rest /= 10;
+    }
+    first -= 1;
+    digits[first] = b'0' + rest as u8;
+    first
+}
+
 fn number(text: &mut [u8], at: usize, n: u64) -> usize
     requires { at + 20 ≤ length text.old }
     ensures { Wrote text.old at (number_of n) text.new result × (result ≤ at + 20) }
 {
     let mut digits = [0u8; 20];
-    let k = io::decimal(n, &mut digits);
-    put(text, at, &digits[..k], 0, k)
+    let k = decimal(n, &mut digits);
+    put(text, at, &digits, k, 20 - k)
 }
 
 fn name(text: &mut [u8], at: usize, kind: u32) -> usize
