@@ -6,7 +6,7 @@ use native.Mathlib.Omega.{arith}
 use mathlib.Core.List.{List, [], ◌∷◌, ◌++◌}
 use lib.Dec.{T, ltb, leb}
 use borrow.Author.Tests.{ltb-false, leb-true, eqb-true, eqb-false, ne_eqb, le-ltb, le-leb, lt-leb, not-false}
-use Rattle.laws.specs.Rows.{Row, row, first_row}
+use Rattle.laws.specs.Rows.{Row, first_row}
 use Rattle.laws.proofs.Tests.{both_left, both_right}
 use Rattle.laws.proofs.Rows.{EachRow, by_rows, numbered, no_row, none_decides, second_decides, first_decides, first_off}
 use Rattle.chips.specs.declared.Target.{Target}

@@ -1,5 +1,5 @@
 -- The number with which reading stops at a refusal: one of 2 to 9. Assumes nothing.
-use mathlib.Core.Path.{◌≡◌, subst}
+use mathlib.Core.Path.{subst}
 use Prim.Native.Nat.{ℕ, ◌≤◌}
 use native.Mathlib.Omega.{arith}
 use mathlib.Core.List.{List}
@@ -8,7 +8,6 @@ use Rattle.chips.specs.declared.Target.{Target}
 use Rattle.laws.proofs.Tests.{both_left, both_right}
 use Rattle.command.specs.Order.{Command}
 use Rattle.judge.specs.declared.Verdict.{Verdict}
-use Rattle.judge.specs.declared.Verdict.TheVariants.{Fault, Passed}
 use Rattle.judge.proofs.Judged.{in_range, fault_number}
 use Rattle.reading.specs.Reading.{Stop, ended, stopped, reading_of}
 use Rattle.reading.specs.EndToEnd.{EndToEnd, used_up, faulty, last, next}

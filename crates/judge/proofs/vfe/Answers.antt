@@ -1,4 +1,3 @@
-use Prim.Native.Nat.{◌/◌}
 use Rattle.judge.proofs.Verdicts.{vfe_can}
 use Rattle.laws.proofs.BitRanges.{coded}
 use borrow.Author.Tests.{le-ltb, lt-ltb}

@@ -1,7 +1,5 @@
-use Prim.Native.Nat.{◌≤◌, ◌-◌}
-use mathlib.Core.Path.{◌≡◌}
+use Prim.Native.Nat.{◌≤◌}
 use borrow.Author.Rules.{rules}
-use borrow.Author.Tests.{not-false}
 use native.Mathlib.Omega.{arith}
 use Rattle.reading.proofs.Steps.{total_one, own_again, stands_same, again_less, again_in, again_commands, again_objects, again_chip, again_scan}
 use Rattle.reading.proofs.again.Goals as goal

@@ -1,5 +1,4 @@
-use Prim.Native.Nat.{◌≤◌, ◌-◌}
-use mathlib.Core.Path.{◌≡◌, refl}
+use mathlib.Core.Path.{refl}
 use borrow.Author.Rules.{rules}
 use Rattle.reading.proofs.Scans.{start_laws, scan_start, scan_end}
 use Rattle.reading.proofs.Steps.{found_laws}

@@ -1,4 +1,3 @@
-use Prim.Native.Nat.{◌≤◌}
 use native.Mathlib.Omega.{arith}
 use Rattle.command.specs.Kinds.{own_dwords}
 use Rattle.command.proofs.Heads.{own_as, own_one}
