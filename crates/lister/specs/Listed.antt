@@ -6,7 +6,7 @@ use Rattle.listing.specs.Listing.{text_of, listed_in}
 use Rattle.lister.specs.declared.Listed.{Listed}
 
 -- the text buffer at exit, by the input buffer at exit, which holds what was read, and the text buffer at entry: where a read failed
--- nothing is listed. Whether one failed is free: what the kit's `read` says.
+-- nothing is listed. Whether one failed is free: what the reader's `read` says.
 abbrev pub text_after : Chip → Listed → List ℕ → List ℕ → List ℕ
 text_after chip r input text = cond r.whole (listed_in chip (take r.bytes input) text) text
 

@@ -7,7 +7,7 @@ use native.Mathlib.Omega.{arith}
 use lib.ListN.{length, set, drop, length-append}
 use lib.Seq.{length-take-le}
 use borrow.Author.Tests.{lt-ltb, le-ltb, eq-eqb, ne_eqb}
-use Rattle.io.specs.Counts.{IsPrefixLen}
+use Rattle.listing.specs.Prefix.{IsPrefixLen}
 use Rattle.chips.specs.declared.Chip.{Chip}
 use Rattle.chips.specs.Chips.{target_of}
 use Rattle.words.specs.Dwords.{dwords_of, dwords_in, Buffer, buffer, put_in}

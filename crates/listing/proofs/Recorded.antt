@@ -23,12 +23,6 @@ pub lines_again : (records o m n : List ℕ) (from i j k p q s : ℕ) → from �
 unfolding record_lines
 lines_again records o m n from i j k p q s h ep eq es u v = rw (add-one i) (then h u (rw es at (rw eq at (rw ep at v))))
 
-pub kind_named : (records : List ℕ) (n i s : ℕ) → KindsNamed records n → i < n → s ≡ slot i 0 → get_or records s 0 < 9
-kind_named records n i s h p e = subst (λ (k : ℕ). get_or records k 0 < 9) (sym e) (h i p)
-
-pub lines_done : (records o m : List ℕ) (from i n j : ℕ) → i ≤ n → n ≤ i → Wrote o from (record_lines records i) m j → Wrote o from (record_lines records n) m j
-lines_done records o m from i n j h l w = let e : i ≡ n = omega arith in rw e at w
-
 -- one command more
 lines_snoc : (cs : List Command) (i : ℕ) → i < length cs →
     lines_of (take (suc i) cs) ≡ lines_of (take i cs) ++ line_of (get_or cs i no_command).place (get_or cs i no_command).kind (get_or cs i no_command).total

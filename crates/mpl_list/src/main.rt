@@ -1,23 +1,22 @@
-// Prints the listing of the batch on standard input, for Gen7. A program of the kit has no exit status: what fails is said on standard
-// error.
+// Prints the listing of the batch on standard input, for Gen7. What fails is said on standard error, and the exit status is 0 either way.
 #![tactic(auto)]
 
 use chips::Chip;
-use libc::{STDERR_FILENO, STDOUT_FILENO};
 
-fn main() {
+fn main(rt: HostRuntime) {
     // one byte more than the listing takes tells a longer input
     let mut input = [0u8; 4097];
     let mut text = [0u8; 49152];
-    let listed = lister::list_input(Chip::Gen7, &mut input, &mut text);
+    let listed = lister::list_input(Chip::Gen7, &mut rt.stdin(), &mut input, &mut text);
     if !listed.whole {
-        io::write_all(STDERR_FILENO, b"mpl_list: standard input: cannot be read\n");
+        let _ = rt
+            .stderr()
+            .write_all(b"mpl_list: standard input: cannot be read\n");
         return;
     }
-    if !io::write_all(STDOUT_FILENO, &text[..listed.length]) {
-        io::write_all(
-            STDERR_FILENO,
-            b"mpl_list: standard output: cannot be written\n",
-        );
+    if rt.stdout().write_all(&text[..listed.length]).is_err() {
+        let _ = rt
+            .stderr()
+            .write_all(b"mpl_list: standard output: cannot be written\n");
     }
 }

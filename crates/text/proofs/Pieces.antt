@@ -1,12 +1,12 @@
 -- Pieces of text, one after the other. Assumes nothing.
 use mathlib.Core.Path.{◌≡◌, sym, ap, ap₂, ◌∙◌}
-use mathlib.Core.List.{List, [], ◌∷◌, ◌++◌, append_assoc}
-use Prim.Native.Nat.{ℕ, suc, ◌+◌, ◌≤◌, ◌<◌}
+use mathlib.Core.List.{List, [], ◌++◌, append_assoc}
+use Prim.Native.Nat.{ℕ, ◌+◌, ◌≤◌, ◌<◌}
 use native.Mathlib.Nat.{add_assoc}
 use native.Mathlib.Numerals.{add-one}
 use native.Mathlib.Omega.{arith}
 use lib.ListN.{length, get_or, take, drop, set, length-append, length-drop}
-use lib.Seq.{paste, paste-zero, paste-suc, get_or-drop, take-paste, drop-paste, take-length, drop-drop, set_split, append_snoc, length-take-le}
+use lib.Seq.{paste, paste-zero, paste-suc, get_or-drop, take-paste, drop-paste, take-length, drop-drop}
 use Rattle.text.specs.Writing.{over, Wrote}
 
 -- The turns of a copy of n bytes of src, from an index of it on: so far i bytes are pasted.
@@ -18,18 +18,6 @@ module _ (o src : List ℕ) (at from i : ℕ) (t : List ℕ) (e : t ≡ paste o 
       ∙ ap (λ (v : ℕ). set (paste o at s i) (at + i) v) (sym (get_or-drop from src i 0))
       ∙ paste-suc o at s i 0 p (simp length-drop (omega arith))
       ∙ ap (paste o at s) (sym (add-one i))
-
-  pub copy_done : (n r : ℕ) → i ≤ n → n ≤ i → from + n ≤ length src → r ≡ at + n → Wrote o at (take n (drop from src)) t r
-  copy_done n r p q h z =
-      let l : length (take n (drop from src)) ≡ n = length-take-le n (drop from src) (simp length-drop (omega arith)) in
-      let f : i ≡ n = omega arith in record { bytes = cc; next = cc }
-
--- a byte
-pub stored : (o new : List ℕ) (at b r : ℕ) → at < length o → new ≡ set o at b → r ≡ at + 1 → Wrote o at (b ∷ []) new r
-stored o new at b r h e q = record {
-  bytes = e ∙ set_split o at b h ∙ sym (append_snoc (take at o) b (drop (suc at) o)) ∙ ap (λ (k : ℕ). (take at o ++ (b ∷ [])) ++ drop k o) (sym (add-one at));
-  next = q;
-}
 
 -- nothing is written yet
 pub none : (o : List ℕ) (from : ℕ) → Wrote o from [] o from
