@@ -1,6 +1,6 @@
 -- What is claimed of every batch check, beside what it is: why it answers so, and what it leaves in the record buffer. Document 01, "Why a
 -- batch is turned away".
-use Rattle.std.specs.Prelude.{◌≡◌, ◌⊎◌, List, ◌++◌, ℕ, ◌+◌, ◌*◌, ◌/◌, ◌%◌, ◌^◌, ◌<◌, ◌≤◌, length, get_or, take}
+use Rattle.std.specs.Prelude.{◌≡◌, ◌⊎◌, List, ◌++◌, ℕ, ◌*◌, ◌/◌, ◌%◌, ◌^◌, ◌<◌, ◌≤◌, length, get_or, take}
 use Rattle.chips.specs.declared.Chip.{Chip}
 use Rattle.chips.specs.declared.Target.{Target}
 use Rattle.chips.specs.Chips.{number_of, target_of, ForChip, ByChip}

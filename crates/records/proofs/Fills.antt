@@ -18,8 +18,7 @@ use Rattle.command.specs.Order.{command_of, state_of, state_after}
 use Rattle.record.specs.Record.{record_of}
 use Rattle.judge.specs.Refusals.{header_verdict, judge_of}
 use Rattle.judge.proofs.Judged.{passed_header, passed_length, own_fits_left}
-use Rattle.words.specs.Dwords.{dwords_in, Buffer, put_in}
-use Rattle.words.proofs.Dwords.{in_length}
+use Rattle.words.specs.Dwords.{Buffer, put_in}
 use Rattle.reading.specs.declared.Turn.{Turn}
 use Rattle.reading.specs.declared.Turn.TheVariants.{Refused, Last, Next}
 use Rattle.reading.specs.Reading.{Whole, Reading, and_then, reading_of}

@@ -1,13 +1,13 @@
 -- One turn of the second pass, which meets no refusal and goes on as the first pass did. proofs/Fills.antt shows that turn by turn these
 -- are the records of the reading.
-use Rattle.std.specs.Prelude.{◌≡◌, List, ℕ, ◌+◌, ◌*◌, ◌<◌, ◌≤◌, length, drop}
+use Rattle.std.specs.Prelude.{◌≡◌, List, ℕ, ◌+◌, ◌*◌, ◌≤◌, length, drop}
 use Rattle.command.specs.declared.State.{State}
 use Rattle.words.specs.Dwords.{Buffer, put_in}
 use Rattle.record.specs.Record.{record_of}
 use Rattle.reading.specs.declared.Turn.{Turn}
 use Rattle.reading.specs.declared.Turn.TheVariants.{Refused, Last, Next}
 use Rattle.reading.specs.Reading.{Whole}
-use Rattle.reading.specs.Turns.{turn_of, here, walk, Header}
+use Rattle.reading.specs.Turns.{here, walk, Header}
 use Rattle.records.specs.Records.{put_words, written}
 use Rattle.records.specs.declared.Place.{Place}
 use Rattle.records.specs.declared.Place.TheVariants.{Done, From}

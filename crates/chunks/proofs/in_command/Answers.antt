@@ -1,4 +1,4 @@
-use mathlib.Core.Path.{◌≡◌, refl, ◌∙◌}
+use mathlib.Core.Path.{refl}
 use Rattle.chunks.proofs.Turns.{got_small, more_went, last_went, settled_same}
 use borrow.Author.Rules.{rules}
 use Rattle.chunks.proofs.in_command.Goals as goal

@@ -1,5 +1,4 @@
-use mathlib.Core.Path.{◌≡◌, refl}
-use Prim.Native.Nat.{◌-◌}
+use mathlib.Core.Path.{refl}
 use Rattle.judge.proofs.Vouching.{no_op_vouches}
 use Rattle.reading.proofs.NoOps.{no_op_total, no_op_header}
 use Rattle.chunks.proofs.Turns.{stands_there, again_own, again_first, again_less, again_kept}

@@ -1,5 +1,3 @@
-use mathlib.Core.Path.{◌≡◌}
-use Prim.Native.Nat.{◌-◌}
 use Rattle.chunks.proofs.Turns.{objects_next, next_own, next_first, next_at, next_less, next_chip, next_alike, next_kept}
 use borrow.Author.Rules.{rules}
 use Rattle.chunks.proofs.objects.Goals as goal

@@ -1,5 +1,3 @@
-use mathlib.Core.Path.{◌≡◌}
-use Prim.Native.Nat.{◌-◌}
 use Rattle.chunks.proofs.Turns.{run_halted, run_done}
 use borrow.Author.Rules.{rules}
 use Rattle.chunks.proofs.run.Goals as goal

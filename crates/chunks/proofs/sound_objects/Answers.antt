@@ -1,4 +1,3 @@
-use Prim.Native.Nat.{◌-◌, ◌≤◌}
 use Rattle.reading.proofs.Steps.{total_one}
 use Rattle.chunks.specs.Turns.{no_more}
 use Rattle.chunks.proofs.Turns.{stands_there, judged_own, judged_first, judged_inside, judged_less, judged_more}

@@ -1,5 +1,4 @@
-use Prim.Native.Nat.{◌-◌}
-use mathlib.Core.Path.{◌≡◌, refl, sym, ◌∙◌}
+use mathlib.Core.Path.{refl, sym, ◌∙◌}
 use borrow.Author.Rules.{rules}
 use Rattle.records.proofs.Fills.{start_left, start_records}
 use Rattle.records.proofs.Places.{same_left, done_records, from_records, from_left, from_less}
