@@ -5,7 +5,7 @@ lib := target/staticlib/libmpl.a
 programs := $(addprefix target/bin/mpl_,shim feed replay limits calls)
 tools := need-rt need-gcc need-cargo
 # Folders too, as a file that went changes its folder alone.
-sources := crates.txt $(shell find crates)
+sources := crates.txt $(shell find crates -name out -prune -o -print)
 
 .PHONY: run shim test bench limits $(tools)
 .DELETE_ON_ERROR:
@@ -28,14 +28,18 @@ limits: target/bin/mpl_limits
 $(tools): need-%:
 	@command -v $* >/dev/null || { echo "missing: $*" >&2; exit 1; }
 
-# The prover knows what it has proved, and leaves that as it is: touched, the file is newer than all that it was asked about.
+# rt run proves, builds and runs a program, and leaves it in the crate's out/; what it prints there of no input is not asked for.
 target/bin/mpl_list target/bin/mpl_list6: target/bin/%: $(sources) | need-rt
-	@echo "proving, about two minutes" >&2
-	@rt check $* >/dev/null || { echo "$* is not proved: rt check $* says why" >&2; exit 1; }
-	@touch $@
+	@echo "proving, some minutes" >&2
+	@mkdir -p target/bin
+	@cd crates/$* && rt run </dev/null >/dev/null 2>&1 || { echo "$* is not proved: rt check in crates/$* says why" >&2; exit 1; }
+	@cp crates/$*/out/$* $@
 
 $(lib): $(sources) | need-rt need-gcc
-	rt staticlib mpl
+	@echo "proving, some minutes" >&2
+	@mkdir -p target/staticlib
+	@cd crates/mpl && rt lib >/dev/null || { echo "mpl is not proved: rt check in crates/mpl says why" >&2; exit 1; }
+	@cp crates/mpl/out/libmpl.a $@
 
 $(programs): target/bin/mpl_%: shim/%.c shim/files.c shim/files.h include/mpl.h $(lib)
 	@mkdir -p target/bin
