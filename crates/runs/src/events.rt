@@ -12,6 +12,7 @@ use objects::Spot;
 use words::{held, word};
 
 // The first n states begin 0.
+#[tactic(auto, using(crate::proofs::RunTurns::begun_laws))]
 pub fn begin(states: &mut [u8], n: usize)
     requires { n ≤ length states.old }
     ensures { states.new ≡ begun n states.old }
@@ -24,6 +25,7 @@ pub fn begin(states: &mut [u8], n: usize)
 }
 
 // The rows of an event.
+#[tactic(auto, using(crate::proofs::StartRows::row_21, crate::proofs::StartRows::row_22, crate::proofs::StartRows::row_23, crate::proofs::StartRows::row_finish, crate::proofs::StartRows::row_start, crate::proofs::StartRows::unnamed_judges))]
 fn judge(
     rd: &[u32],
     rb: &[u8],
@@ -54,6 +56,7 @@ fn judge(
 }
 
 // What an event leaves its object in.
+#[tactic(auto, unfolding(crate::specs::Run::state_left))]
 fn state_left(e: u32) -> u8
     ensures { result ≡ state_left e }
 {
@@ -76,6 +79,7 @@ fn at_first() -> Cursors
 }
 
 // The events of a run, with the states as they have begun.
+#[tactic(auto, using(crate::proofs::RunTurns::turns))]
 pub fn run(
     rd: &[u32],
     rb: &[u8],
