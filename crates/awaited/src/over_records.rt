@@ -66,7 +66,7 @@ fn four_tested(rd: &[u32], rb: &[u8], whole: bool, corner: u64, rows: &[u32], r:
 }
 
 // Passes over records that fail it, four at a time: most do, and the loop costs as much as the test.
-#[tactic(auto, using(crate::proofs::Searched::passed_none, crate::proofs::Searched::passed_four))]
+#[tactic(auto, using(crate::proofs::Searched::passed_none))]
 fn leap(
     rd: &[u32],
     rb: &[u8],
@@ -90,7 +90,7 @@ fn leap(
 }
 
 // The first record within reach, or `to`.
-#[tactic(auto, using(crate::proofs::Searched::passed_whole, crate::proofs::Searched::passed_next))]
+#[tactic(auto, using(crate::proofs::Searched::passed_next))]
 fn first_reached(rd: &[u32], rb: &[u8], corner: u64, rows: &[u32], from: usize, to: usize) -> usize
     requires { RecordsIn (lent rd.now rb.now) to × (from ≤ to) × (length rows.now ≡ 16) }
     ensures { Passed (reached_at (lent rd.now rb.now) corner rows.now) from to result }
@@ -107,7 +107,7 @@ fn first_reached(rd: &[u32], rb: &[u8], corner: u64, rows: &[u32], from: usize, 
 
 // The first record awaited before record `to`, or `to`; before `from` there is none. Records that are not even near are passed over first,
 // which is quicker; whether the test is a whole one is a constant in each call, so that each gets a loop of its own.
-#[tactic(auto, using(crate::proofs::Searched::passed_whole, crate::proofs::Searched::passed_unawaited, crate::proofs::Searched::search_none, crate::proofs::Searched::turn_found, crate::proofs::Searched::turn_next))]
+#[tactic(auto, using(crate::proofs::Searched::search_none))]
 fn first_awaited(
     rd: &[u32],
     rb: &[u8],
@@ -147,7 +147,7 @@ fn past(s: Stretch, r: usize) -> usize
 }
 
 // Crosses finished objects: from record `from` up to the first that is an unfinished object's, or to `to` or past it.
-#[tactic(auto, using(crate::proofs::Searched::past_crossed, crate::proofs::Searched::cross_next))]
+#[tactic(auto, using(crate::proofs::Searched::cross_next))]
 fn cross(rd: &[u32], rb: &[u8], states: &[u8], s: Stretch, from: usize, to: usize) -> usize
     requires { StatesIn (lent rd.now rb.now) states.now to × Crossed (lent rd.now rb.now) states.now s }
     ensures { Crossed (lent rd.now rb.now) states.now (record { from = from; to = result }) }
@@ -186,7 +186,7 @@ fn block_end(from: usize, r: usize, own: usize) -> usize
 }
 
 // The first record awaited before record own. After each block the search crosses the finished objects that stand there.
-#[tactic(auto, using(crate::proofs::Searched::block_found, crate::proofs::Searched::block_crossed, crate::proofs::Searched::kept_crossed, crate::proofs::Searched::search_none))]
+#[tactic(auto, using(crate::proofs::Searched::search_none))]
 fn search(
     rd: &[u32],
     rb: &[u8],
