@@ -12,7 +12,7 @@ use objects::Candidate;
 use objects::recorded::{delta_to, is_object, near, number, reached};
 
 // Is record r that of an unfinished object?
-#[tactic(auto, using(crate::proofs::Searched::unfinished_other, crate::proofs::Searched::unfinished_room, crate::proofs::Searched::unfinished_state))]
+#[tactic(auto, using(crate::proofs::Searched::unfinished_laws))]
 fn unfinished(rd: &[u32], rb: &[u8], states: &[u8], r: usize) -> bool
     requires { StateIn (lent rd.now rb.now) states.now r }
     ensures { result ≡ unfinished_record (lent rd.now rb.now) states.now r }
@@ -48,7 +48,7 @@ fn tested(rd: &[u32], rb: &[u8], whole: bool, corner: u64, rows: &[u32], r: usiz
 }
 
 // Does one of the four records from r on pass that test?
-#[tactic(auto, using(crate::proofs::Searched::four_first, crate::proofs::Searched::four_second, crate::proofs::Searched::four_third, crate::proofs::Searched::four_last))]
+#[tactic(auto, using(crate::proofs::Searched::four_laws))]
 fn four_tested(rd: &[u32], rb: &[u8], whole: bool, corner: u64, rows: &[u32], r: usize) -> bool
     requires { RecordsIn (lent rd.now rb.now) (r + 4) × (length rows.now ≡ 16) }
     ensures { result ≡ one_of_four (tested_at whole (lent rd.now rb.now) corner rows.now) r }

@@ -35,7 +35,7 @@ pub fn joined_mask(own: u32, mask: u32, vfe_dword_5: u32) -> u32
 }
 
 // How many deltas are in play and which is the lowest, for any dwords.
-#[tactic(auto, using(laws::proofs::BitRanges::taken, laws::proofs::BitRanges::taken_low, crate::proofs::Masks::joined_small, crate::proofs::Masks::joined_counted))]
+#[tactic(auto, using(laws::proofs::BitRanges::coded, crate::proofs::Masks::joined_laws))]
 pub fn deltas_in_play(object_dword_2: u32, vfe_dword_5: u32, object_dword_5: u32) -> InPlay
     ensures { result ≡ counted (in_play object_dword_2 vfe_dword_5 object_dword_5) }
 {

@@ -35,7 +35,7 @@ fn mark(rows: &mut [u32; 16], mask: u32, d6: u32, d7: u32, i: u32)
 }
 
 // Sets the bits of all deltas of the mask in a table that has none set. In place, since a table that is handed back is copied.
-#[tactic(auto, using(crate::proofs::Reached::rows_first, crate::proofs::Reached::rows_next, crate::proofs::Reached::rows_rest, crate::proofs::Reached::rows_all))]
+#[tactic(auto, using(crate::proofs::Reached::rows_laws))]
 pub fn set_rows(rows: &mut [u32; 16], mask: u32, d6: u32, d7: u32)
     requires { rows.old ≡ replicate 16 0 }
     ensures { rows.new ≡ rows_of mask d6 d7 }

@@ -110,7 +110,7 @@ pub fn reached(rd: &[u32], rb: &[u8], corner: u64, rows: &[u32], r: usize) -> bo
 
 // The lowest delta of a candidate at the object of record r, if that one uses a scoreboard and colours agree; else 8. Who is looked at has
 // passed the quick test, so that a delta most often leads there: the tests that need less come first.
-#[tactic(auto, using(crate::proofs::RecordWords::delta_other, crate::proofs::RecordWords::delta_unused, crate::proofs::RecordWords::delta_there))]
+#[tactic(auto, using(crate::proofs::RecordWords::delta_laws))]
 pub fn delta_to(rd: &[u32], rb: &[u8], c: Candidate, r: usize) -> u32
     requires { RecordIn (lent rd.now rb.now) r }
     ensures { result ≡ delta_to (lent rd.now rb.now) c r }

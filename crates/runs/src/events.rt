@@ -12,7 +12,6 @@ use objects::Spot;
 use words::{held, word};
 
 // The first n states begin 0.
-#[tactic(auto, using(crate::proofs::RunTurns::begun_laws))]
 pub fn begin(states: &mut [u8], n: usize)
     requires { n ≤ length states.old }
     ensures { states.new ≡ begun n states.old }
@@ -25,7 +24,7 @@ pub fn begin(states: &mut [u8], n: usize)
 }
 
 // The rows of an event.
-#[tactic(auto, using(crate::proofs::StartRows::row_21, crate::proofs::StartRows::row_22, crate::proofs::StartRows::row_23, crate::proofs::StartRows::row_finish, crate::proofs::StartRows::row_start, crate::proofs::StartRows::unnamed_judges))]
+#[tactic(auto, using(crate::proofs::StartRows::row_laws))]
 fn judge(
     rd: &[u32],
     rb: &[u8],

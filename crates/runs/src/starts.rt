@@ -16,7 +16,7 @@ use objects::walk::record_of;
 use objects::{Candidate, Spot};
 
 // The lowest object below k in state 0, or where the search stopped at k or past it; below `from` there is none.
-#[tactic(auto, using(crate::proofs::Searches::waiting_next, crate::proofs::Searches::waiting_laws))]
+#[tactic(auto, using(crate::proofs::Searches::waiting_laws))]
 fn lowest_waiting(states: &[u8], from: usize, k: usize) -> usize
     requires { (k ≤ length states.now) × NoneBelow (waiting_at states.now) from }
     ensures { NoneBelow (waiting_at states.now) result × (min result k ≡ lowest_waiting states.now k) }
@@ -32,7 +32,7 @@ fn lowest_waiting(states: &[u8], from: usize, k: usize) -> usize
 }
 
 // The first unfinished object, or k where all below it are finished; below `from` there is none.
-#[tactic(auto, using(crate::proofs::Searches::unfinished_found, crate::proofs::Searches::unfinished_next, crate::proofs::Searches::unfinished_none))]
+#[tactic(auto, using(crate::proofs::Searches::unfinished_laws))]
 fn first_unfinished(states: &[u8], from: usize, k: usize) -> usize
     requires { (k ≤ length states.now) × (from ≤ k) × NoneBelow (unfinished_at states.now) from }
     ensures { result ≡ find_first k (unfinished_at states.now) }
