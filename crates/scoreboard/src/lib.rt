@@ -21,7 +21,6 @@ pub struct Answer {
 }
 
 // The order check over dwords, for a known chip.
-#[tactic(auto, using(crate::proofs::Orders::dwords_order))]
 fn check_for(
     target: Target,
     batch: &[u32],
@@ -40,7 +39,7 @@ fn check_for(
 }
 
 // The same over little-endian bytes: the batch's 17, then the run's, before all else but 18, which `check_bytes` asks.
-#[tactic(auto, using(crate::proofs::Orders::odd_batch, crate::proofs::Orders::odd_run, crate::proofs::Orders::bytes_order))]
+#[tactic(auto, using(crate::proofs::Orders::odd_batch, crate::proofs::Orders::odd_run))]
 fn check_bytes_for(
     target: Target,
     batch: &[u8],
