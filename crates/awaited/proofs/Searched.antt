@@ -43,6 +43,8 @@ module _ (d states : List ℕ) (r : ℕ) (t : Bool) (et : t ≡ is_object d r) w
         ap (λ (i : ℕ). unfinished_at states i) ej
         ∙ ap (λ (b : Bool). b && unfinished_at states (word_at d r 15)) (sym (not-false t q) ∙ et)
 
+pub ruleset unfinished_laws = (unfinished_other, unfinished_room, unfinished_state)
+
 module _ (d states : List ℕ) (c : Candidate) (r : ℕ) where
   pub finished_unawaited : unfinished_record d states r ≡ false → awaited_record d states c r ≡ false
   unfolding awaited_record
@@ -132,6 +134,8 @@ module _ (f : ℕ → Bool) (r : ℕ) (s : Bool) (es : s ≡ f r) where
       pub four_last : (v : Bool) → u ≡ false → v ≡ f (r + 3) → v ≡ one_of_four f r
       unfolding one_of_four
       four_last v z e = e ∙ simp (sym es ∙ p, sym et ∙ q, sym eu ∙ z)
+
+pub ruleset four_laws = (four_first, four_second, four_third, four_last)
 
 no_four : (a b c e : Bool) → a || b || c || e ≡ false → (a ≡ false) × (b ≡ false) × (c ≡ false) × (e ≡ false)
 no_four false false false false h = (refl, refl, refl, refl)

@@ -12,6 +12,7 @@ use objects::Candidate;
 use objects::recorded::{delta_to, is_object, near, number, reached};
 
 // Is record r that of an unfinished object?
+#[tactic(auto, using(crate::proofs::Searched::unfinished_laws))]
 fn unfinished(rd: &[u32], rb: &[u8], states: &[u8], r: usize) -> bool
     requires { StateIn (lent rd.now rb.now) states.now r }
     ensures { result ≡ unfinished_record (lent rd.now rb.now) states.now r }
@@ -23,6 +24,7 @@ fn unfinished(rd: &[u32], rb: &[u8], states: &[u8], r: usize) -> bool
 }
 
 // Is it that of an object that the candidate waits for?
+#[tactic(auto, using(crate::proofs::Searched::awaited_finished, crate::proofs::Searched::awaited_delta))]
 fn awaited(rd: &[u32], rb: &[u8], states: &[u8], c: Candidate, r: usize) -> bool
     requires { StateIn (lent rd.now rb.now) states.now r }
     ensures { result ≡ awaited_record (lent rd.now rb.now) states.now c r }
@@ -34,6 +36,7 @@ fn awaited(rd: &[u32], rb: &[u8], states: &[u8], c: Candidate, r: usize) -> bool
 }
 
 // Does record r pass the quick test or, where it is not the whole one, its half?
+#[tactic(auto, using(crate::proofs::Searched::tested_whole, crate::proofs::Searched::tested_half))]
 fn tested(rd: &[u32], rb: &[u8], whole: bool, corner: u64, rows: &[u32], r: usize) -> bool
     requires { RecordIn (lent rd.now rb.now) r × (length rows.now ≡ 16) }
     ensures { result ≡ tested_at whole (lent rd.now rb.now) corner rows.now r }
@@ -45,6 +48,7 @@ fn tested(rd: &[u32], rb: &[u8], whole: bool, corner: u64, rows: &[u32], r: usiz
 }
 
 // Does one of the four records from r on pass that test?
+#[tactic(auto, using(crate::proofs::Searched::four_laws))]
 fn four_tested(rd: &[u32], rb: &[u8], whole: bool, corner: u64, rows: &[u32], r: usize) -> bool
     requires { RecordsIn (lent rd.now rb.now) (r + 4) × (length rows.now ≡ 16) }
     ensures { result ≡ one_of_four (tested_at whole (lent rd.now rb.now) corner rows.now) r }
@@ -62,6 +66,7 @@ fn four_tested(rd: &[u32], rb: &[u8], whole: bool, corner: u64, rows: &[u32], r:
 }
 
 // Passes over records that fail it, four at a time: most do, and the loop costs as much as the test.
+#[tactic(auto, using(crate::proofs::Searched::passed_none))]
 fn leap(
     rd: &[u32],
     rb: &[u8],
@@ -85,6 +90,7 @@ fn leap(
 }
 
 // The first record within reach, or `to`.
+#[tactic(auto, using(crate::proofs::Searched::passed_next))]
 fn first_reached(rd: &[u32], rb: &[u8], corner: u64, rows: &[u32], from: usize, to: usize) -> usize
     requires { RecordsIn (lent rd.now rb.now) to × (from ≤ to) × (length rows.now ≡ 16) }
     ensures { Passed (reached_at (lent rd.now rb.now) corner rows.now) from to result }
@@ -101,6 +107,7 @@ fn first_reached(rd: &[u32], rb: &[u8], corner: u64, rows: &[u32], from: usize, 
 
 // The first record awaited before record `to`, or `to`; before `from` there is none. Records that are not even near are passed over first,
 // which is quicker; whether the test is a whole one is a constant in each call, so that each gets a loop of its own.
+#[tactic(auto, using(crate::proofs::Searched::search_none))]
 fn first_awaited(
     rd: &[u32],
     rb: &[u8],
@@ -129,6 +136,7 @@ fn first_awaited(
 }
 
 // Where the search goes on at record r, by the stretch crossed last.
+#[tactic(auto, using(crate::proofs::Searched::past_on, crate::proofs::Searched::past_off))]
 fn past(s: Stretch, r: usize) -> usize
     ensures { result ≡ past_of s r }
 {
@@ -139,6 +147,7 @@ fn past(s: Stretch, r: usize) -> usize
 }
 
 // Crosses finished objects: from record `from` up to the first that is an unfinished object's, or to `to` or past it.
+#[tactic(auto, using(crate::proofs::Searched::cross_next))]
 fn cross(rd: &[u32], rb: &[u8], states: &[u8], s: Stretch, from: usize, to: usize) -> usize
     requires { StatesIn (lent rd.now rb.now) states.now to × Crossed (lent rd.now rb.now) states.now s }
     ensures { Crossed (lent rd.now rb.now) states.now (record { from = from; to = result }) }
@@ -154,6 +163,7 @@ fn cross(rd: &[u32], rb: &[u8], states: &[u8], s: Stretch, from: usize, to: usiz
 }
 
 // The stretch to keep where one was crossed: an empty one is not worth it.
+#[tactic(auto, using(crate::proofs::Searched::kept_old, crate::proofs::Searched::kept_new))]
 fn kept(s: Stretch, from: usize, to: usize) -> Stretch
     ensures { result ≡ kept_of s from to }
 {
@@ -176,6 +186,7 @@ fn block_end(from: usize, r: usize, own: usize) -> usize
 }
 
 // The first record awaited before record own. After each block the search crosses the finished objects that stand there.
+#[tactic(auto, using(crate::proofs::Searched::search_none))]
 fn search(
     rd: &[u32],
     rb: &[u8],
@@ -205,6 +216,7 @@ fn search(
 }
 
 // The same for the candidate of record own, with the rows of its quick test.
+#[tactic(auto, using(deltas::proofs::Reached::rows_long, crate::proofs::Searched::quick_test))]
 pub fn find(
     rd: &[u32],
     rb: &[u8],

@@ -105,3 +105,5 @@ set_counted m h =
 pub joined_counted : (m own mask vfe5 : ℕ) → m ≡ joined_mask own mask vfe5 → counts m ≡ counted (in_play_of own mask vfe5)
 joined_counted m own mask vfe5 e =
     ap counts e ∙ set_counted (joined_mask own mask vfe5) (joined_below own mask vfe5) ∙ ap counted (joined_set own mask vfe5)
+
+pub ruleset joined_laws = (joined_small, joined_counted)

@@ -119,6 +119,8 @@ module _ (mask d6 d7 : ℕ) where
     unfolding rows_of
     rows_all p q = let n : i ≡ 8 = omega arith in e ∙ ap (rows_to mask d6 d7) n
 
+pub ruleset rows_laws = (rows_first, rows_next, rows_rest, rows_all)
+
 -- one bit of two numbers
 one_or : (a b : ℕ) → a < 2 → b < 2 → eqb a 1 || eqb b 1 ≡ eqb (bit_or a b) 1
 one_or zero zero p q = refl

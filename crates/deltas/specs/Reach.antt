@@ -1,6 +1,6 @@
 -- A quick test for the search of 25, which passes over most objects: one that fails it is an object that no delta leads to (`unreached` of
 -- proofs/Reached.antt). Whether a delta does lead to one that passes, `lowest_at` says.
-use Rattle.std.specs.Prelude.{ℕ, zero, suc, ◌+◌, ◌-◌, ◌*◌, ◌/◌, ◌%◌, ◌^◌, Bool, cond, not, ◌&&◌, List, [], ◌∷◌, set, replicate, bit_or, slice_index, slice_set}
+use Rattle.std.specs.Prelude.{ℕ, zero, suc, ◌+◌, ◌-◌, ◌*◌, ◌/◌, ◌%◌, ◌^◌, Bool, cond, not, ◌&&◌, List, [], ◌∷◌, replicate, bit_or, slice_index, slice_set}
 use Rattle.laws.specs.BitRanges.{Bits, bits, any_set}
 use Rattle.deltas.specs.InPlay.{bit_set}
 use Rattle.deltas.specs.Lowest.{delta_byte}

@@ -5,6 +5,7 @@ ghost use Rattle.deltas.specs.InPlay.{uses_scoreboard, type_of, joined_mask, in_
 use crate::InPlay;
 
 // By the object's own bit.
+#[tactic(auto, using(laws::proofs::BitRanges::taken), unfolding(crate::specs::InPlay::uses_scoreboard))]
 pub fn uses_scoreboard(own: u32, vfe_dword_5: u32) -> bool
     ensures { result ≡ uses_scoreboard own vfe_dword_5 }
 {
@@ -15,6 +16,7 @@ pub fn uses_scoreboard(own: u32, vfe_dword_5: u32) -> bool
 }
 
 // 0 stalling, 1 not.
+#[tactic(auto, using(laws::proofs::BitRanges::taken), unfolding(crate::specs::InPlay::type_of))]
 pub fn scoreboard_type(vfe_dword_5: u32) -> u32
     ensures { result ≡ type_of vfe_dword_5 }
 {
@@ -22,6 +24,7 @@ pub fn scoreboard_type(vfe_dword_5: u32) -> u32
 }
 
 // The deltas in play as a mask of eight, by the object's own bit and its mask.
+#[tactic(auto, using(laws::proofs::BitRanges::taken_low), unfolding(crate::specs::InPlay::joined_mask))]
 pub fn joined_mask(own: u32, mask: u32, vfe_dword_5: u32) -> u32
     ensures { result ≡ joined_mask own mask vfe_dword_5 }
 {
@@ -32,6 +35,7 @@ pub fn joined_mask(own: u32, mask: u32, vfe_dword_5: u32) -> u32
 }
 
 // How many deltas are in play and which is the lowest, for any dwords.
+#[tactic(auto, using(laws::proofs::BitRanges::coded, crate::proofs::Masks::joined_laws))]
 pub fn deltas_in_play(object_dword_2: u32, vfe_dword_5: u32, object_dword_5: u32) -> InPlay
     ensures { result ≡ counted (in_play object_dword_2 vfe_dword_5 object_dword_5) }
 {

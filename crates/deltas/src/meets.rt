@@ -6,6 +6,7 @@ ghost use Rattle.deltas.specs.Lowest.{lowest_at, half_to, is_byte, lowest_byte};
 use crate::table::{delta_byte, delta_x, delta_y};
 
 // One axis. Any sum of a u32 and an i32 is an i64, so it needs no bounds.
+#[tactic(auto, using(crate::proofs::Signed::sum_reaches))]
 fn reaches_axis(x: u32, d: i32, to: u32) -> bool
     ensures { result ≡ reaches x d to }
 {
@@ -14,6 +15,7 @@ fn reaches_axis(x: u32, d: i32, to: u32) -> bool
 }
 
 // Both: from the position (x, y) by the delta (dx, dy) to the position (jx, jy).
+#[tactic(auto, using(crate::proofs::Signed::passed), unfolding(crate::specs::Meets::meets_at))]
 fn meets(x: u32, y: u32, dx: i32, dy: i32, jx: u32, jy: u32) -> bool
     ensures { result ≡ meets_at x y dx dy jx jy }
 {
@@ -24,6 +26,7 @@ fn meets(x: u32, y: u32, dx: i32, dy: i32, jx: u32, jy: u32) -> bool
 }
 
 // The half byte of a delta that leads from one coordinate to another, if any does: the difference modulo 16.
+#[tactic(auto, using(crate::proofs::Bytes::half_below), unfolding(crate::specs::Lowest::half_to))]
 fn half(x: u32, to: u32) -> u32
     ensures { (result ≡ half_to x to) × (result < 16) }
 {
@@ -31,6 +34,7 @@ fn half(x: u32, to: u32) -> u32
 }
 
 // Is delta i in the mask, and is it that byte? The deltas are those of VFE dwords 6 and 7.
+#[tactic(auto, using(crate::proofs::Bytes::byte_off, crate::proofs::Bytes::byte_on))]
 fn is_byte(mask: u32, d6: u32, d7: u32, byte: u32, i: u32) -> bool
     requires { i < 8 }
     ensures { result ≡ is_byte mask d6 d7 byte i }
@@ -42,6 +46,7 @@ fn is_byte(mask: u32, d6: u32, d7: u32, byte: u32, i: u32) -> bool
 }
 
 // The lowest delta in the mask whose byte is the one given, 8 where none is. Most masks have few bits.
+#[tactic(auto, using(crate::proofs::Bytes::byte_laws))]
 fn lowest_byte(mask: u32, d6: u32, d7: u32, byte: u32) -> u32
     ensures { (result ≡ lowest_byte mask d6 d7 byte) × (result ≤ 8) }
 {
@@ -60,6 +65,7 @@ fn lowest_byte(mask: u32, d6: u32, d7: u32, byte: u32) -> u32
 
 // The lowest delta of a mask that leads from (x, y) to (jx, jy), 8 where none does. Modulo 16 one byte alone leads there; whether a delta
 // with that byte does lead there, the sums decide.
+#[tactic(auto, using(crate::proofs::Bytes::lowest_none, crate::proofs::Bytes::lowest_found, crate::proofs::Bytes::lowest_off))]
 pub fn lowest_delta(x: u32, y: u32, mask: u32, d6: u32, d7: u32, jx: u32, jy: u32) -> u32
     ensures { result ≡ lowest_at x y mask d6 d7 jx jy }
 {

@@ -13,6 +13,7 @@ pub fn place(x: u32, y: u32) -> u64
 }
 
 // The place from which every delta of (x, y) leads 0 to 15 on.
+#[tactic(auto, using(crate::proofs::Reached::corner_is))]
 pub fn corner(x: u32, y: u32) -> u64
     ensures { result ≡ corner_of x y }
 {
@@ -20,6 +21,7 @@ pub fn corner(x: u32, y: u32) -> u64
 }
 
 // Sets the bit of delta i, if that one is in the mask. The deltas are those of VFE dwords 6 and 7.
+#[tactic(auto, using(crate::proofs::Reached::mark_off, crate::proofs::Reached::mark_on))]
 fn mark(rows: &mut [u32; 16], mask: u32, d6: u32, d7: u32, i: u32)
     requires { i < 8 }
     ensures { rows.new ≡ with_delta mask d6 d7 i rows.old }
@@ -33,6 +35,7 @@ fn mark(rows: &mut [u32; 16], mask: u32, d6: u32, d7: u32, i: u32)
 }
 
 // Sets the bits of all deltas of the mask in a table that has none set. In place, since a table that is handed back is copied.
+#[tactic(auto, using(crate::proofs::Reached::rows_laws))]
 pub fn set_rows(rows: &mut [u32; 16], mask: u32, d6: u32, d7: u32)
     requires { rows.old ≡ replicate 16 0 }
     ensures { rows.new ≡ rows_of mask d6 d7 }
@@ -48,6 +51,7 @@ pub fn set_rows(rows: &mut [u32; 16], mask: u32, d6: u32, d7: u32)
 }
 
 // Is a place less than 16 from the corner, in X and in Y? No delta leads to any other.
+#[tactic(auto, using(crate::proofs::Reached::near_is))]
 pub fn near(corner: u64, place: u64) -> bool
     ensures { result ≡ near_to corner place }
 {
@@ -55,6 +59,7 @@ pub fn near(corner: u64, place: u64) -> bool
 }
 
 // Is the bit set for a place?
+#[tactic(auto, using(crate::proofs::Reached::reached_off, crate::proofs::Reached::reached_on))]
 pub fn reached(corner: u64, rows: &[u32], place: u64) -> bool
     requires { length rows.now ≡ 16 }
     ensures { result ≡ reached_from corner rows.now place }

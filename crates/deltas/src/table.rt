@@ -15,6 +15,7 @@ pub fn delta(n: u32) -> i32
 }
 
 // The dword with the byte of delta i.
+#[tactic(auto, unfolding(crate::specs::Deltas::delta_dword))]
 fn delta_dword(d6: u32, d7: u32, i: u32) -> u32
     ensures { result ≡ delta_dword d6 d7 i }
 {
@@ -24,12 +25,14 @@ fn delta_dword(d6: u32, d7: u32, i: u32) -> u32
     d7
 }
 
+#[tactic(auto, using(crate::proofs::Nibbles::by_half), unfolding(crate::specs::Deltas::delta_x))]
 pub fn delta_x(d6: u32, d7: u32, i: u32) -> i32
     ensures { result ≡ delta_x d6 d7 i }
 {
     delta(delta_dword(d6, d7, i) >> (8 * (i % 4)))
 }
 
+#[tactic(auto, using(crate::proofs::Nibbles::by_half), unfolding(crate::specs::Deltas::delta_y))]
 pub fn delta_y(d6: u32, d7: u32, i: u32) -> i32
     ensures { result ≡ delta_y d6 d7 i }
 {
@@ -37,6 +40,7 @@ pub fn delta_y(d6: u32, d7: u32, i: u32) -> i32
 }
 
 // The byte of delta i: X in the low half, Y in the high.
+#[tactic(auto, using(crate::proofs::Bytes::taken_byte))]
 pub fn delta_byte(d6: u32, d7: u32, i: u32) -> u32
     ensures { result ≡ delta_byte d6 d7 i }
 {

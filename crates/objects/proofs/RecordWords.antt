@@ -67,6 +67,8 @@ delta_other d r c colour e n = go (uses_scoreboard (word_at d r 4) (vfe_word_at 
     go true q = simp q
     go false q = refl
 
+pub ruleset delta_laws = (delta_other, delta_unused, delta_there)
+
 pub corner_is : (d : List ℕ) (r x y p : ℕ) → x ≡ word_at d r 7 → y ≡ word_at d r 8 → p ≡ corner_of x y → p ≡ corner_at d r
 corner_is d r x y p ex ey e = e ∙ ap₂ corner_of ex ey
 

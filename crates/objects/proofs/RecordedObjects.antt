@@ -20,19 +20,19 @@ use Rattle.reading.proofs.EndToEnd.{reading_laid}
 use Rattle.reading.specs.Vfes.{no_command, command_number, UnderVfe}
 use Rattle.records.specs.Records.{written, recorded}
 use Rattle.records.proofs.Slots.{word_at_lem}
-use Rattle.objects.specs.Objects.{object_of, objects_of}
+use Rattle.objects.specs.Objects.{Object, object_of, objects_of}
 use Rattle.objects.specs.Recorded.{word_at, vfe_word_at, is_object, object_recorded, recorded_from, objects_recorded, Numbered}
 
 -- there are as many objects as the first pass counts
 pub objects_count : (all cs : List Command) → object_count cs ≡ length (objects_of all cs)
 unfolding object_count objects_of
 objects_count all [] = refl
-objects_count all (c ∷ cs) = go (eqb c.kind 7) (objects_count all cs)
+objects_count all (c ∷ cs) = go (eqb c.kind 7) _ (objects_count all cs)
   where
-    go : (t : Bool) → object_count cs ≡ length (objects_of all cs)
-        → cond t (object_count cs + 1) (object_count cs) ≡ length (cond t (object_of c.head (command_number all c.vfe).head ∷ objects_of all cs) (objects_of all cs))
-    go true e = add-one (object_count cs) ∙ ap suc e
-    go false e = e
+    go : (t : Bool) (o : Object) → object_count cs ≡ length (objects_of all cs)
+        → cond t (object_count cs + 1) (object_count cs) ≡ length (cond t (o ∷ objects_of all cs) (objects_of all cs))
+    go true o e = add-one (object_count cs) ∙ ap suc e
+    go false o e = e
 
 -- commands with the numbers of their objects, the first of which is m
 abbrev Counted : ℕ → List Command → Type 0

@@ -7,6 +7,7 @@ use records::slot_of;
 use words::{held, word};
 
 // Word f of record r.
+#[tactic(auto, using(crate::proofs::RecordWords::word_is))]
 pub fn record_word(rd: &[u32], rb: &[u8], r: usize, f: usize) -> u32
     requires { RecordIn (lent rd.now rb.now) r × (f < 16) }
     ensures { result ≡ word_at (lent rd.now rb.now) r f }
@@ -15,6 +16,7 @@ pub fn record_word(rd: &[u32], rb: &[u8], r: usize, f: usize) -> u32
 }
 
 // Word f of the record of the VFE in force at record r.
+#[tactic(auto, using(crate::proofs::RecordWords::vfe_word_is, crate::proofs::RecordWords::vfe_word_none))]
 pub fn vfe_word(rd: &[u32], rb: &[u8], r: usize, f: usize) -> u32
     requires { RecordIn (lent rd.now rb.now) r × (f < 16) }
     ensures { result ≡ vfe_word_at (lent rd.now rb.now) r f }

@@ -12,6 +12,7 @@ use deltas::reach;
 use deltas::reach::place;
 
 // Is record r an OBJECT's?
+#[tactic(auto, unfolding(crate::specs::Recorded::is_object))]
 pub fn is_object(rd: &[u32], rb: &[u8], r: usize) -> bool
     requires { RecordIn (lent rd.now rb.now) r }
     ensures { result ≡ is_object (lent rd.now rb.now) r }
@@ -28,6 +29,7 @@ pub fn number(rd: &[u32], rb: &[u8], r: usize) -> usize
 }
 
 // Does the object of record r use a scoreboard of type 0?
+#[tactic(auto, using(crate::proofs::RecordWords::stalls_off, crate::proofs::RecordWords::stalls_on))]
 pub fn stalls(rd: &[u32], rb: &[u8], r: usize) -> bool
     requires { RecordIn (lent rd.now rb.now) r }
     ensures { result ≡ stalls_at (lent rd.now rb.now) r }
@@ -40,6 +42,7 @@ pub fn stalls(rd: &[u32], rb: &[u8], r: usize) -> bool
 }
 
 // The deltas in play of the object of record r, as a mask of eight.
+#[tactic(auto, using(crate::proofs::RecordWords::mask_is))]
 pub fn mask(rd: &[u32], rb: &[u8], r: usize) -> u32
     requires { RecordIn (lent rd.now rb.now) r }
     ensures { result ≡ mask_at (lent rd.now rb.now) r }
@@ -52,6 +55,7 @@ pub fn mask(rd: &[u32], rb: &[u8], r: usize) -> u32
 }
 
 // The place from which every delta of the object of record r leads 0 to 15 on.
+#[tactic(auto, using(crate::proofs::RecordWords::corner_is))]
 fn corner(rd: &[u32], rb: &[u8], r: usize) -> u64
     requires { RecordIn (lent rd.now rb.now) r }
     ensures { result ≡ corner_at (lent rd.now rb.now) r }
@@ -60,6 +64,7 @@ fn corner(rd: &[u32], rb: &[u8], r: usize) -> u64
 }
 
 // What 25 compares, of the object of record r, and the corner of what its deltas reach.
+#[tactic(auto, using(crate::proofs::RecordWords::candidate_is))]
 pub fn candidate(rd: &[u32], rb: &[u8], r: usize) -> Candidate
     requires { RecordIn (lent rd.now rb.now) r }
     ensures { result ≡ candidate_of (lent rd.now rb.now) r }
@@ -76,6 +81,7 @@ pub fn candidate(rd: &[u32], rb: &[u8], r: usize) -> Candidate
 }
 
 // Where the object of record r stands, as one number.
+#[tactic(auto, using(crate::proofs::RecordWords::place_is))]
 fn place_at(rd: &[u32], rb: &[u8], r: usize) -> u64
     requires { RecordIn (lent rd.now rb.now) r }
     ensures { result ≡ place_at (lent rd.now rb.now) r }
@@ -84,6 +90,7 @@ fn place_at(rd: &[u32], rb: &[u8], r: usize) -> u64
 }
 
 // Is the object of record r near enough to the candidate of a corner for any delta to lead there?
+#[tactic(auto, using(crate::proofs::RecordWords::near_is))]
 pub fn near(rd: &[u32], rb: &[u8], corner: u64, r: usize) -> bool
     requires { RecordIn (lent rd.now rb.now) r }
     ensures { result ≡ near_at (lent rd.now rb.now) corner r }
@@ -93,6 +100,7 @@ pub fn near(rd: &[u32], rb: &[u8], corner: u64, r: usize) -> bool
 
 // A quick test of the object of record r, which most objects fail: no delta of the candidate leads to one that does. The corner is the
 // candidate's, and the rows are those of its deltas.
+#[tactic(auto, using(crate::proofs::RecordWords::reached_is))]
 pub fn reached(rd: &[u32], rb: &[u8], corner: u64, rows: &[u32], r: usize) -> bool
     requires { RecordIn (lent rd.now rb.now) r × (length rows.now ≡ 16) }
     ensures { result ≡ reached_at (lent rd.now rb.now) corner rows.now r }
@@ -102,6 +110,7 @@ pub fn reached(rd: &[u32], rb: &[u8], corner: u64, rows: &[u32], r: usize) -> bo
 
 // The lowest delta of a candidate at the object of record r, if that one uses a scoreboard and colours agree; else 8. Who is looked at has
 // passed the quick test, so that a delta most often leads there: the tests that need less come first.
+#[tactic(auto, using(crate::proofs::RecordWords::delta_laws))]
 pub fn delta_to(rd: &[u32], rb: &[u8], c: Candidate, r: usize) -> u32
     requires { RecordIn (lent rd.now rb.now) r }
     ensures { result ≡ delta_to (lent rd.now rb.now) c r }

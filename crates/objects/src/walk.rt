@@ -8,6 +8,7 @@ use crate::Spot;
 use crate::recorded::{is_object, number};
 
 // By how many records the walk to object k goes on from record r: by none at its own.
+#[tactic(auto, using(crate::proofs::Numbers::step_other, crate::proofs::Numbers::step_below, crate::proofs::Numbers::step_object))]
 fn step_to(rd: &[u32], rb: &[u8], k: usize, r: usize) -> usize
     requires { RecordIn (lent rd.now rb.now) r × (is_object (lent rd.now rb.now) r ≡ true → word_at (lent rd.now rb.now) r 15 ≤ k) }
     ensures { result ≡ step_to (lent rd.now rb.now) k r }
@@ -19,6 +20,7 @@ fn step_to(rd: &[u32], rb: &[u8], k: usize, r: usize) -> usize
 }
 
 // The record of object k, by a walk from a spot at or before it.
+#[tactic(auto, using(crate::proofs::Numbers::walk_first, crate::proofs::Numbers::walk_in, crate::proofs::Numbers::walk_number))]
 pub fn record_of(rd: &[u32], rb: &[u8], n: usize, from: Spot, k: usize) -> usize
     requires { Records (lent rd.now rb.now) n × Numbered (lent rd.now rb.now) n × Spotted (lent rd.now rb.now) n from.object from.at
         × (from.object ≤ k) × (k < length (objects_recorded (lent rd.now rb.now) n)) }

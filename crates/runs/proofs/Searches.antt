@@ -53,6 +53,8 @@ module _ (states : List ℕ) (k j s : ℕ) (off : NoneBelow (unfinished_at state
 pub unfinished_none : (states : List ℕ) (k j : ℕ) → NoneBelow (unfinished_at states) j → j ≤ k → k ≤ j → j ≡ find_first k (unfinished_at states)
 unfinished_none states k j off p q = let e : j ≡ k = omega arith in e ∙ sym (none (unfinished_at states) k j q off)
 
+pub ruleset unfinished_laws = (unfinished_found, unfinished_next, unfinished_none)
+
 -- the tests of the code, against those of the definition: p says that the other is finished
 below_8 : (p u e : Bool) (l : ℕ) → not p && u && e && ltb l 8 ≡ not p && ltb (cond (u && e) l 8) 8
 below_8 true u e l = refl

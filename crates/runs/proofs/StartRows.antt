@@ -142,3 +142,5 @@ pub unnamed_judges : (d : List ℕ) (n : ℕ) (states : List ℕ) (v : Verdict) 
     → SoundCursors d n states c → fault m 0 0 ≡ v → Judges d n states v r
 unnamed_judges d n states v r m c e s q =
     record { verdict = ap (λ (x : Judgement). x.verdict) e ∙ q; cursors = subst (λ (x : Judgement). SoundCursors d n states x.cursors) (sym e) s }
+
+pub ruleset row_laws = (row_21, row_22, row_23, row_finish, row_start, unnamed_judges)

@@ -10,7 +10,7 @@ use Rattle.awaited.specs.Search.{unfinished_at, Crossed}
 use Rattle.runs.specs.declared.Verdict.{Verdict}
 use Rattle.runs.specs.declared.Cursors.{Cursors}
 use Rattle.runs.specs.declared.Judgement.{Judgement}
-use Rattle.runs.specs.Run.{state_at, waiting, unfinished, lowest_waited, lowest_delta, lowest_waiting, fault, no_fault}
+use Rattle.runs.specs.Run.{state_at, waiting, lowest_waited, lowest_delta, lowest_waiting, fault, no_fault}
 
 -- row 25
 unfoldable pub wait_verdict : List Object → List ℕ → ℕ → Verdict

@@ -24,6 +24,7 @@ pub fn begin(states: &mut [u8], n: usize)
 }
 
 // The rows of an event.
+#[tactic(auto, using(crate::proofs::StartRows::row_laws))]
 fn judge(
     rd: &[u32],
     rb: &[u8],
@@ -54,6 +55,7 @@ fn judge(
 }
 
 // What an event leaves its object in.
+#[tactic(auto, unfolding(crate::specs::Run::state_left))]
 fn state_left(e: u32) -> u8
     ensures { result ≡ state_left e }
 {
@@ -76,6 +78,7 @@ fn at_first() -> Cursors
 }
 
 // The events of a run, with the states as they have begun.
+#[tactic(auto, using(crate::proofs::RunTurns::turns))]
 pub fn run(
     rd: &[u32],
     rb: &[u8],

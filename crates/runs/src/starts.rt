@@ -16,6 +16,7 @@ use objects::walk::record_of;
 use objects::{Candidate, Spot};
 
 // The lowest object below k in state 0, or where the search stopped at k or past it; below `from` there is none.
+#[tactic(auto, using(crate::proofs::Searches::waiting_laws))]
 fn lowest_waiting(states: &[u8], from: usize, k: usize) -> usize
     requires { (k ≤ length states.now) × NoneBelow (waiting_at states.now) from }
     ensures { NoneBelow (waiting_at states.now) result × (min result k ≡ lowest_waiting states.now k) }
@@ -31,6 +32,7 @@ fn lowest_waiting(states: &[u8], from: usize, k: usize) -> usize
 }
 
 // The first unfinished object, or k where all below it are finished; below `from` there is none.
+#[tactic(auto, using(crate::proofs::Searches::unfinished_laws))]
 fn first_unfinished(states: &[u8], from: usize, k: usize) -> usize
     requires { (k ≤ length states.now) × (from ≤ k) × NoneBelow (unfinished_at states.now) from }
     ensures { result ≡ find_first k (unfinished_at states.now) }
@@ -60,6 +62,7 @@ pub fn unnamed(number: u32, cursors: Cursors) -> Judgement
 }
 
 // Row 25 for a candidate that waits for the object of record r.
+#[tactic(auto, using(crate::proofs::Awaited::named_is))]
 fn named(rd: &[u32], rb: &[u8], c: Candidate, r: usize) -> Verdict
     requires { RecordIn (lent rd.now rb.now) r × (word_at (lent rd.now rb.now) r 15 < 16384) }
     ensures { result ≡ fault 25 (word_at (lent rd.now rb.now) r 15) (delta_to (lent rd.now rb.now) c r) }
@@ -135,6 +138,7 @@ fn waits(
 }
 
 // The nearest spot before object k, which is in state 0.
+#[tactic(auto, using(crate::proofs::StartRows::nearest_last, crate::proofs::StartRows::nearest_first))]
 fn nearest(c: Cursors, k: usize) -> Spot
     ensures { result ≡ nearest_of c k }
 {

@@ -10,7 +10,7 @@ use Rattle.chips.specs.Chips as chips
 use Rattle.chips.specs.Chips.{ForChip}
 use Rattle.chips.proofs.Chips.{same_chip}
 use Rattle.words.specs.Dwords.{dwords_of, put_le}
-use Rattle.reading.specs.Reading.{Reading, reading_of}
+use Rattle.reading.specs.Reading.{Reading}
 use Rattle.records.specs.Records.{written}
 use Rattle.reading.specs.Isolation.{Alike, BytesAlike}
 use Rattle.reading.specs.Decision.{whole_dwords}

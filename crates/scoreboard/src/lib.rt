@@ -39,6 +39,7 @@ fn check_for(
 }
 
 // The same over little-endian bytes: the batch's 17, then the run's, before all else but 18, which `check_bytes` asks.
+#[tactic(auto, using(crate::proofs::Orders::odd_batch, crate::proofs::Orders::odd_run))]
 fn check_bytes_for(
     target: Target,
     batch: &[u8],
@@ -63,6 +64,7 @@ fn check_bytes_for(
 }
 
 // The order check over dwords: the chip, a batch, the capacity in rows, a run, and what is lent for records and states.
+#[tactic(auto, using(crate::proofs::Orders::unknown_order, crate::proofs::Orders::known_order))]
 pub fn check(
     chip: u32,
     batch: &[u32],
@@ -81,6 +83,7 @@ pub fn check(
 }
 
 // The same over little-endian bytes.
+#[tactic(auto, using(crate::proofs::Orders::unknown_bytes_order, crate::proofs::Orders::known_bytes_order))]
 pub fn check_bytes(
     chip: u32,
     batch: &[u8],
