@@ -16,6 +16,7 @@ use Rattle.event.specs.Gateways.{closed}
 use Rattle.event.specs.Groups.{no_group, group_of, waits_of, own_group, whole_with, Grouped}
 use Rattle.event.specs.Outcomes.{malformed, ruled_of, outcome_of}
 use Rattle.event.proofs.Formed.{formed_sender}
+use Rattle.event.proofs.Groups.{group_read}
 use Rattle.event.proofs.Reach.{decided_31, decided_formed}
 use Rattle.effects.specs.Effects.{one_more, released, waits_after}
 use Rattle.effects.specs.Releases.{releases_after}
@@ -24,6 +25,11 @@ use Rattle.barriers.specs.Barriers.{member_mask, waiting_of, waiting_in, waits_i
 use Rattle.barriers.proofs.MemberMasks.{mask_at, masks_set}
 use Rattle.barriers.proofs.Masks.{bit_tells, none_waiting, whole_mask, waiting_same, waiting_set}
 use Rattle.barriers.proofs.Waits.{waits_in_long}
+
+-- a sender's group, as the code reads it in the groups that are lent
+pub group_is : (h : Head) (s : Setup) (groups : List ℕ) → Grouped s → groups ≡ s.groups → malformed h.kind h s.threads ≡ false → get_or groups h.sender 0 ≡ own_group h s
+group_is h s groups grouped e f =
+    ap (λ (l : List ℕ). get_or l h.sender 0) e ∙ group_read s h.sender grouped.all (omega (arith, grouped.few, formed_sender h.kind h s.threads f))
 
 module _ (h : Head) (s : Setup) (members m rs : List ℕ) (kind : h.kind ≡ 4) (grouped : Grouped s) (kept : Masked s members m) where
   abbrev ws : List Bool

@@ -50,6 +50,7 @@ pub fn members(setup: Setup) -> [u32; 16]
 
 // A barrier message: it waits, or makes its group whole, which is then released. The groups are the setup's, lent: a copy of them for each
 // message would be made in memory.
+#[tactic(auto, using(crate::proofs::Waits::members_long, event::proofs::Formed::formed_sender))]
 fn arrive(
     h: Head,
     setup: Setup,

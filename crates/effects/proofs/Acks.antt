@@ -1,5 +1,5 @@
 -- The acknowledgement: when it is written, where, and what it leaves. Assumes nothing.
-use mathlib.Core.Path.{◌≡◌, refl, ap, ◌∙◌}
+use mathlib.Core.Path.{◌≡◌, refl, ◌∙◌}
 use mathlib.Core.Bool.{Bool, true, false, ◌||◌}
 use mathlib.Core.List.{List, [], ◌∷◌}
 use Prim.Native.Nat.{ℕ, ◌+◌, ◌*◌, ◌/◌, ◌%◌, ◌^◌, ◌≤◌, ◌<◌}
@@ -7,9 +7,8 @@ use native.Mathlib.Omega.{arith}
 use lib.ListN.{length, get_or, set, length-set}
 use lib.Seq.{get_or-set_other}
 use lib.Dec.{eqb}
-use borrow.Author.Tests.{eq-eqb, ne_eqb, eqb-false, not-true}
-use Rattle.laws.proofs.Choices.{by_cond, by_test, and_left, and_right, none_of, or_false}
-use Rattle.words.specs.Dwords.{put_le}
+use borrow.Author.Tests.{eqb-false, not-true}
+use Rattle.laws.proofs.Choices.{by_cond, and_left, and_right, none_of, or_false}
 use Rattle.event.specs.declared.Head.{Head}
 use Rattle.event.specs.declared.Setup.{Setup}
 use Rattle.event.specs.declared.Gateway.{Gateway}
@@ -31,31 +30,10 @@ pub ack_room : (h : Head) (s : Setup) (g : Gateway) (waits : List Bool) (o n : �
     → acknowledged h o ≡ true → ack_place h + 4 ≤ n
 ack_room h s g waits o n e d a = ack_place_lem h s.threads o n e (λ m. formed_of h s g waits (λ z. m (d ∙ z))) a
 
-module _ (h : Head) (o : ℕ) where
-  acked : counted_ack h.kind h ≡ true → (o ≡ 31 → ⊥) → (o ≡ 32 → ⊥) → acknowledged h o ≡ true
-  acked a n m = simp (a, ne_eqb _ _ n, ne_eqb _ _ m)
-
-  module _ (rs : List ℕ) where
-    pub no_ack : counted_ack h.kind h ≡ false → rs ≡ with_ack h o rs
-    unfolding with_ack
-    no_ack a = simp a
-
-    pub no_ack_31 : o ≡ 31 → rs ≡ with_ack h o rs
-    unfolding with_ack
-    no_ack_31 e = by_test (counted_ack h.kind h) (λ a. simp (a, eq-eqb _ _ e)) (λ a. simp a)
-
-    pub no_ack_32 : (o ≡ 31 → ⊥) → o ≡ 32 → rs ≡ with_ack h o rs
-    unfolding with_ack
-    no_ack_32 n e = by_test (counted_ack h.kind h) (λ a. simp (a, ne_eqb _ _ n, eq-eqb _ _ e)) (λ a. simp a)
-
-    -- a counted ack of an outcome that is neither is stored as one dword
-    module _ (a : counted_ack h.kind h ≡ true) (n : o ≡ 31 → ⊥) (m : o ≡ 32 → ⊥) (room : acknowledged h o ≡ true → ack_place h + 4 ≤ length rs) where
-      pub ack_fits : ack_place h + 4 ≤ length rs
-      ack_fits = room (acked a n m)
-
-      pub ack_stored : (rs' : List ℕ) (k : ℕ) → rs' ≡ put_le rs k o → 4 * k ≡ ack_place h → rs' ≡ with_ack h o rs
-      unfolding with_ack
-      ack_stored rs' k e p = simp (acked a n m) (e ∙ ap (λ (q : ℕ). four_bytes rs q o) p)
+-- what does not count is not acknowledged
+pub no_ack : (h : Head) (o : ℕ) (rs : List ℕ) → counted_ack h.kind h ≡ false → rs ≡ with_ack h o rs
+unfolding with_ack
+no_ack h o rs a = simp a
 
 -- it writes its own four bytes alone
 four_elsewhere : (rs : List ℕ) (q v p : ℕ) → (q ≤ p → p < q + 4 → ⊥) → get_or (four_bytes rs q v) p 0 ≡ get_or rs p 0

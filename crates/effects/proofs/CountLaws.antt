@@ -1,26 +1,18 @@
 -- Counts: who gets one N0 by a release, and a forward's notification. Assumes nothing.
-use mathlib.Core.Path.{◌≡◌, refl, ap, ◌∙◌}
+use mathlib.Core.Path.{◌≡◌, refl, ◌∙◌}
 use mathlib.Core.Bool.{Bool, true, false, cond}
 use mathlib.Core.List.{List}
 use Prim.Native.Nat.{ℕ, zero, suc, ◌+◌, ◌*◌, ◌≤◌}
 use native.Mathlib.Omega.{arith}
 use lib.Dec.{eqb}
-use lib.ListN.{length, get_or, set, length-set}
-use lib.Seq.{get_or-set_other, set-get_or}
+use lib.ListN.{length, get_or, length-set}
+use lib.Seq.{get_or-set_other}
 use borrow.Author.Tests.{ne_eqb, eqb-true}
 use Rattle.laws.proofs.Choices.{by_test}
 use Rattle.event.specs.Groups.{group_of, over_members}
 use Rattle.effects.specs.Effects.{one_more, notified, group_notified}
 
 -- ---- one more at a place, or none
-
-pub at_most_one : (b : Bool) → cond b 1 0 ≤ 1
-at_most_one true = omega arith
-at_most_one false = omega arith
-
-pub stored_if : (b : Bool) (cs : List ℕ) (k : ℕ) → set cs k (get_or cs k 0 + cond b 1 0) ≡ cond b (one_more cs k) cs
-stored_if true cs k = refl
-stored_if false cs k = let e : get_or cs k 0 + 0 ≡ get_or cs k 0 = omega arith in ap (set cs k) e ∙ set-get_or cs k 0
 
 pub as_long : (b : Bool) (cs : List ℕ) (k : ℕ) → length (cond b (one_more cs k) cs) ≡ length cs
 as_long true cs k = length-set cs k _

@@ -10,7 +10,7 @@ use Rattle.laws.proofs.Choices.{by_test}
 use Rattle.event.specs.declared.Head.{Head}
 use Rattle.event.specs.declared.Setup.{Setup}
 use Rattle.event.specs.declared.Gateway.{Gateway}
-use Rattle.event.specs.Outcomes.{Unserved, counted_ack, malformed, ruled_of, decided_of, decision_of, outcome_of}
+use Rattle.event.specs.Outcomes.{Unserved, counted_ack, malformed, decided_of, decision_of, outcome_of}
 use Rattle.event.proofs.Formed.{formed_kind}
 use Rattle.event.proofs.Rules.{left_over}
 use Rattle.event.proofs.Reach.{decided_31, decided_formed}
@@ -20,10 +20,6 @@ module _ (h : Head) (s : Setup) where
     pub outcome_31 : malformed h.kind h s.threads ≡ true → 31 ≡ outcome_of (decision_of h s g ws)
     unfolding outcome_of
     outcome_31 f = sym (ap outcome_of (decided_31 h s g ws f))
-
-    -- the outcome of a kind's rule, for an event of that kind that is not malformed
-    pub outcome_ruled : (k : ℕ) {n : ℕ} → h.kind ≡ k → malformed h.kind h s.threads ≡ false → n ≡ outcome_of (ruled_of k h s g ws) → n ≡ outcome_of (decision_of h s g ws)
-    outcome_ruled k e f p = p ∙ ap (λ (m : ℕ). outcome_of (ruled_of m h s g ws)) (sym e) ∙ sym (ap outcome_of (decided_formed h s g ws f))
 
   -- who waits is no matter to a forward
   pub forward_same : (g : Gateway) (ws ws' : List Bool) → h.kind ≡ 2 → decision_of h s g ws ≡ decision_of h s g ws'

@@ -1,4 +1,3 @@
-pub mod Clearing
 pub mod Steps
 pub mod Bounds
 pub mod Loops
