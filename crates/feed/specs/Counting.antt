@@ -1,4 +1,4 @@
--- How many dwords of a chunk are read and counted, as the code has it: proofs/Counting.antt (`take_Chunk`) shows it equal to the dwords one
+-- How many dwords of a chunk are read and counted, as the code has it: proofs/Counting.antt (`take_chunk_lem`) shows it equal to the dwords one
 -- by one, and proofs/Feeds.antt (`over_taken`) inline data that is passed over at once.
 use Rattle.std.specs.Prelude.{◌≡◌, ℕ, ◌+◌, ◌-◌, ◌<◌, ◌≤◌, cond, get_or, ltb, leb}
 use Rattle.chips.specs.declared.Chip.{Chip}
