@@ -1,5 +1,5 @@
 /*
- * The checker of media command batches, of runs and of gateway recordings, for C on x86-64. Link libmpl.a (`rt staticlib mpl`); it needs
+ * The checker of media command batches, of runs and of gateway recordings, for C on x86-64. Link libmpl.a (`make target/staticlib/libmpl.a`); it needs
  * memcpy and memset. shim/shim.c, shim/feed.c and shim/replay.c are examples. The checks are for Gen6 and for Gen7: the caller names the
  * chip.
  *
