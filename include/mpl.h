@@ -1,7 +1,7 @@
 /*
- * The checker of media command batches, of runs and of gateway recordings, for C on x86-64. Link libmpl.a (`make target/staticlib/libmpl.a`); it needs
- * memcpy and memset. shim/shim.c, shim/feed.c and shim/replay.c are examples. The checks are for Gen6 and for Gen7: the caller names the
- * chip.
+ * The checker of media command batches, of runs and of gateway recordings, for C on x86-64. Link libmpl.a (`make
+ * target/staticlib/libmpl.a`); it needs memcpy and memset. shim/shim.c, shim/feed.c and shim/replay.c are examples. The checks are for Gen6
+ * and for Gen7: the caller names the chip.
  *
  * What a caller owes: each pointer is valid for its length, in elements; it may be null only where that length is 0; pointers to uint32_t
  * are aligned, those to bytes need not be; no two buffers of a call overlap; during the call nobody else writes them, or reads those that
