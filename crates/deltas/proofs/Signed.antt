@@ -44,9 +44,6 @@ module _ (x : ℕ) (d : ℤ) (hx : x < 2 ^ 32) (hd : SFits w32 d) where
   fits : SFits w64 (pos x +ℤ d)
   fits = record { sfits = omega (arith, add_mag x d, hd.sfits) }
 
-  pub sum_fits : SFits w64 sum
-  sum_fits = subst⁻¹ (λ (z : ℤ). SFits w64 z) is_sum fits
-
   pub sum_reaches : (to : ℕ) → to < 2 ^ 32 → eqb (of_z w64 sum) to ≡ reaches x d to
   unfolding reaches
   sum_reaches to h = ap (λ (z : ℤ). eqb (of_z w64 z) to) is_sum ∙ compared (pos x +ℤ d) to fits (omega arith)

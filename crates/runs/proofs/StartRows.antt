@@ -17,7 +17,7 @@ use Rattle.runs.specs.declared.Judgement.{Judgement}
 use Rattle.objects.specs.Objects.{Object, object_with, object_at}
 use Rattle.runs.specs.Run.{state_at, lowest_waiting, fault, no_fault, verdict_of}
 use Rattle.objects.specs.Recorded.{object_recorded, objects_recorded, Spotted, Holds, stalls_at}
-use Rattle.runs.specs.Starts.{wait_verdict, start_verdict, waiting_at, nearest_of, SoundCursors, Judges}
+use Rattle.runs.specs.Starts.{wait_verdict, start_verdict, nearest_of, SoundCursors, Judges}
 
 pub nearest_last : (c : Cursors) (k : ℕ) → c.last.object ≤ k → c.last ≡ nearest_of c k
 unfolding nearest_of
@@ -93,15 +93,6 @@ module _ (d : List ℕ) (n : ℕ) (states : List ℕ) (k own : ℕ) (b : Bool) (
 
 -- where the next start goes on
 module _ (d : List ℕ) (n : ℕ) (states : List ℕ) (c x : Cursors) (h : SoundCursors d n states c) where
-  pub started_before : (w k own : ℕ) → x ≡ record { waiting = w; unfinished = c.unfinished; last = record { object = k; at = own }; crossed = c.crossed }
-      → c.unfinished.object ≤ k → x.unfinished.object ≤ k
-  started_before w k own e l = subst (λ (y : Cursors). y.unfinished.object ≤ k) (sym e) l
-
-  pub started_sound : (w k own : ℕ) → x ≡ record { waiting = w; unfinished = c.unfinished; last = record { object = k; at = own }; crossed = c.crossed }
-      → NoneBelow (waiting_at states) w → Holds d n k own → SoundCursors d n states x
-  started_sound w k own e off hk =
-      subst (SoundCursors d n states) (sym e) (record { started = off; finished = h.finished; first = h.first; latest = hk.spot; crossed = h.crossed })
-
   pub searched_sound : (u at : ℕ) (s : Stretch) → x ≡ record { waiting = c.waiting; unfinished = record { object = u; at = at }; last = c.last; crossed = s }
       → NoneBelow (unfinished_at states) u → Holds d n u at → Crossed d states s → SoundCursors d n states x
   searched_sound u at s e off hu k =
