@@ -35,7 +35,7 @@ TurnAt b len at st = (len ≡ length b) × (at < len) × (len < 2 ^ 32) × (st.c
 abbrev pub StartsWith : Chip → List ℕ → ℕ → ℕ → ℕ → Type 0
 StartsWith c b at k d = (d ≡ get_or b at 0) × (k ≡ kind_of c d)
 
--- What is left of a pass: `read`, with what the commands before have set in place of their list. `read_Walk` of proofs/Walk.antt shows that
+-- What is left of a pass: `read`, with what the commands before have set in place of their list. `read_walk` of proofs/Walk.antt shows that
 -- it is the reading.
 unfoldable pub walk : List ℕ → ℕ → ℕ → State → Reading
 walk [] n at st = reading [] (stopped 2 at)
