@@ -1,10 +1,10 @@
 -- The search for row 25 over records: what it looks for, what it may pass over, and what it counts on. None of this is a rule: that the
 -- first record awaited is that of the lowest object waited for, `search_verdict` of runs/proofs/Awaited.antt shows. Below, d are the dwords
 -- of the record buffer.
-use Rattle.std.specs.Prelude.{◌≡◌, ℕ, ◌+◌, ◌<◌, ◌≤◌, Bool, true, false, not, cond, ◌&&◌, ◌||◌, List, ltb, eqb, length, get_or}
+use Rattle.std.specs.Prelude.{◌≡◌, ℕ, ◌<◌, ◌≤◌, Bool, true, false, not, cond, ◌&&◌, List, ltb, eqb, length, get_or}
 use Rattle.laws.specs.Find.{find_first}
 use Rattle.objects.specs.declared.Candidate.{Candidate}
-use Rattle.objects.specs.Recorded.{word_at, is_object, RecordIn, delta_to, near_at, reached_at}
+use Rattle.objects.specs.Recorded.{word_at, is_object, RecordIn, delta_to, reached_at}
 use Rattle.awaited.specs.declared.Stretch.{Stretch}
 use Rattle.awaited.specs.declared.Found.{Found}
 
@@ -23,21 +23,6 @@ awaited_record d states c r = unfinished_record d states r && ltb (delta_to d c 
 -- f holds nowhere from a up to b
 abbrev pub NoneIn : (ℕ → Bool) → ℕ → ℕ → Type 0
 NoneIn f a b = (r : ℕ) → a ≤ r → r < b → f r ≡ false
-
--- does record r pass the quick test or, where it is not the whole one, its half? What fails either fails the whole (`half_unreached` of
--- proofs/Searched.antt).
-unfoldable pub tested_at : Bool → List ℕ → ℕ → List ℕ → ℕ → Bool
-tested_at whole d corner rows r = cond whole (reached_at d corner rows r) (near_at d corner r)
-
--- does f hold at one of the four from r on?
-unfoldable pub one_of_four : (ℕ → Bool) → ℕ → Bool
-one_of_four f r = f r || f (r + 1) || f (r + 2) || f (r + 3)
-
--- r is one from a to b, and f holds nowhere from a up to it
-pub record Passed (f : ℕ → Bool) (a b r : ℕ) : Type 0 where
-  pub after : a ≤ r
-  pub within : r ≤ b
-  pub none : NoneIn f a r
 
 -- the first n records are in the buffer
 abbrev pub RecordsIn : List ℕ → ℕ → Type 0

@@ -14,7 +14,7 @@ use Rattle.chips.specs.declared.Target.{Target}
 use Rattle.chips.specs.Chips.{number_of, target_of, by_named, Unnamed, ForChip, of_none, of_chip}
 use Rattle.chips.proofs.Chips.{same_number, by_named_lem, same_chip}
 use Rattle.words.specs.Dwords.{le_at, dwords_of, put_le}
-use Rattle.words.proofs.Dwords.{length_dwords}
+use Rattle.words.specs.Lengths.{length_dwords}
 use Rattle.command.specs.Order.{Command}
 use Rattle.record.specs.Record.{record_of}
 use Rattle.reading.specs.Reading.{Stop, ended, stopped, Reading, reading_of}

@@ -3,9 +3,7 @@ use Rattle.std.specs.Prelude.{ℕ, ◌/◌, List, length, set}
 use Rattle.chips.specs.declared.Target.{Target}
 use Rattle.chips.specs.Chips.{target_of, on_chip}
 use Rattle.words.specs.Dwords.{dwords_of, put_le}
-use Rattle.reading.specs.declared.Scanned.{Scanned}
-use Rattle.reading.specs.declared.Scanned.TheVariants.{Stopped, Ended}
-use Rattle.reading.specs.Decision.{decided, whole_dwords}
+use Rattle.reading.specs.Decision.{Scanned, Stopped, Ended, decided, whole_dwords}
 use Rattle.records.specs.Records.{recorded}
 use Rattle.batch.specs.declared.Answer.{Answer}
 

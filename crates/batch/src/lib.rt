@@ -1,14 +1,16 @@
 // The batch check: a pass that decides and writes nothing, then a pass that writes the records.
 #![tactic(auto)]
 
-ghost use Rattle.std.specs.Prelude.{◌≡◌};
-ghost use Rattle.batch.specs.Answers.{refused_answer, accepted_answer, answer_by};
-ghost use Rattle.batch.specs.Answers.{answer_for, records_for, bytes_answer_for, bytes_records_for};
+ghost use Rattle.std.specs.Prelude.{◌≡◌, length};
+ghost use Rattle.reading.specs.Decision.{found, decided};
+ghost use Rattle.batch.specs.Answers.{refused_answer, accepted_answer, answer_by, recorded_in};
+ghost use Rattle.batch.specs.Answers.{bytes_answer_for, bytes_records_for};
 ghost use Rattle.batch.specs.Answers.{answer_of, records_of, bytes_answer_of, bytes_records_of};
 
-use chips::{Named, Target, chip_named};
-use reading::{Scanned, decide};
+use chips::{Chip, Refusal, Target};
+use reading::{Extent, Refused, decide};
 use records::fill;
+use words::Element;
 
 // Number 0: accepted, with the commands and dwords read, and place 0. Else the refusal's number and place, and no commands and dwords.
 #[repr(C)]
@@ -20,6 +22,7 @@ pub struct Answer {
     pub dwords: u64,
 }
 
+// A number and no `Refusal`: the chunked check answers the number that was carried.
 pub fn refused(number: u32, place: usize) -> Answer
     ensures { result ≡ refused_answer number place }
 {
@@ -43,62 +46,36 @@ pub fn accepted(commands: usize, dwords: usize) -> Answer
 }
 
 // The answer, read off the decision after the records are written: before that, the loads would wait for the stores that made it.
-fn answered(found: Scanned) -> Answer
-    ensures { result ≡ answer_by found }
+fn answered(decision: Result<Extent, Refused>) -> Answer
+    ensures { result ≡ answer_by (found decision) }
 {
-    match found {
-        Scanned::Stopped { number, place } => refused(number, place),
-        Scanned::Ended {
-            commands,
-            dwords,
-            objects,
-        } => accepted(commands, dwords),
+    match decision {
+        Err(Refused { refusal, place }) => refused(refusal.number(), place),
+        Ok(extent) => accepted(extent.commands, extent.dwords),
     }
 }
 
-// The batch check over dwords, for a known chip.
-fn check_for(target: Target, batch: &[u32], records: &mut [u32]) -> Answer
-    ensures { (result ≡ answer_for target batch.now records.old)
-        × (records.new ≡ records_for target batch.now records.old) }
+// The batch check over dwords or bytes, for a known chip.
+fn check_for<T: Element>(target: Target, batch: &[T], records: &mut [T]) -> Answer
+    ensures { (result ≡ decided refused_answer accepted_answer target (length (T.dwords records.old)) (T.dwords batch.now))
+        × (records.new ≡ recorded_in T.stored target (length (T.dwords records.old)) (T.dwords batch.now) records.old) }
 {
-    let none: [u8; 0] = [];
-    let mut empty: [u8; 0] = [];
-    let found = decide(target, batch, &none, records.len());
-    match found {
-        Scanned::Stopped { number, place } => refused(number, place),
-        Scanned::Ended {
-            commands,
-            dwords,
-            objects,
-        } => {
-            fill(target, batch, &none, records, &mut empty);
-            answered(found)
-        }
+    let decision = decide(target, batch, T::held(records));
+    if decision.is_ok() {
+        fill(target, batch, records);
     }
+    answered(decision)
 }
 
-// The same over little-endian bytes.
+// Over little-endian bytes 17 comes first.
 fn check_bytes_for(target: Target, batch: &[u8], records: &mut [u8]) -> Answer
     ensures { (result ≡ bytes_answer_for target batch.now records.old)
         × (records.new ≡ bytes_records_for target batch.now records.old) }
 {
     if batch.len() % 4 != 0 {
-        return refused(17, batch.len() / 4);
+        return refused(Refusal::PartialDword.number(), batch.len() / 4);
     }
-    let none: [u32; 0] = [];
-    let mut empty: [u32; 0] = [];
-    let found = decide(target, &none, batch, records.len() / 4);
-    match found {
-        Scanned::Stopped { number, place } => refused(number, place),
-        Scanned::Ended {
-            commands,
-            dwords,
-            objects,
-        } => {
-            fill(target, &none, batch, &mut empty, records);
-            answered(found)
-        }
-    }
+    check_for(target, batch, records)
 }
 
 // The batch check over dwords: may the chip read this batch? On acceptance the records stand in `records`; on refusal it is as it was.
@@ -106,9 +83,9 @@ pub fn check(chip: u32, batch: &[u32], capacity: u32, records: &mut [u32]) -> An
     ensures { (result ≡ answer_of chip capacity batch.now records.old)
         × (records.new ≡ records_of chip capacity batch.now records.old) }
 {
-    match chip_named(chip) {
-        Named::Unknown => refused(18, 0),
-        Named::Known { chip } => check_for(Target { chip, capacity }, batch, records),
+    match Chip::try_from(chip) {
+        Ok(chip) => check_for(Target { chip, capacity }, batch, records),
+        Err(_) => refused(Refusal::UnknownChip.number(), 0),
     }
 }
 
@@ -117,8 +94,8 @@ pub fn check_bytes(chip: u32, batch: &[u8], capacity: u32, records: &mut [u8]) -
     ensures { (result ≡ bytes_answer_of chip capacity batch.now records.old)
         × (records.new ≡ bytes_records_of chip capacity batch.now records.old) }
 {
-    match chip_named(chip) {
-        Named::Unknown => refused(18, 0),
-        Named::Known { chip } => check_bytes_for(Target { chip, capacity }, batch, records),
+    match Chip::try_from(chip) {
+        Ok(chip) => check_bytes_for(Target { chip, capacity }, batch, records),
+        Err(_) => refused(Refusal::UnknownChip.number(), 0),
     }
 }

@@ -1,9 +1,9 @@
 -- The chip that a batch is for: document 02, One, "The caller names the chip, 6 or 7."
-use Rattle.std.specs.Prelude.{ℕ, ◌≡◌, cond, eqb}
+use Rattle.std.specs.Prelude.{ℕ, ◌≡◌, cond, eqb, Result, Ok, Err}
 use Rattle.chips.specs.declared.Chip.{Chip}
 use Rattle.chips.specs.declared.Chip.TheVariants.{Gen6, Gen7}
-use Rattle.chips.specs.declared.Named.{Named}
-use Rattle.chips.specs.declared.Named.TheVariants.{Unknown, Known}
+use Rattle.chips.specs.declared.Refusal.{Refusal}
+use Rattle.chips.specs.declared.Refusal.TheVariants.{UnknownChip}
 use Rattle.chips.specs.declared.Target.{Target}
 
 -- the number by which a caller names it
@@ -12,13 +12,13 @@ number_of Gen6 = 6
 number_of Gen7 = 7
 
 -- the chip that a number names
-unfoldable pub named_by : ℕ → Named
-named_by n = cond (eqb n (number_of Gen6)) (Known Gen6) (cond (eqb n (number_of Gen7)) (Known Gen7) Unknown)
+unfoldable pub named_by : ℕ → Result Chip Refusal
+named_by n = cond (eqb n (number_of Gen6)) (Ok Gen6) (cond (eqb n (number_of Gen7)) (Ok Gen7) (Err UnknownChip))
 
 -- what is given back by what is named
-abbrev pub by_named : {A : Type 0} → A → (Chip → A) → Named → A
-by_named unknown known Unknown = unknown
-by_named unknown known (Known c) = known c
+abbrev pub by_named : {A : Type 0} → A → (Chip → A) → Result Chip Refusal → A
+by_named unknown known (Err r) = unknown
+by_named unknown known (Ok c) = known c
 
 -- 18: "chip neither 6 nor 7, checked before all others"; "A new refusal .. changes nothing lent and has place 0". What the refusal means,
 -- and what is given back for the chip named, are the arguments.

@@ -1,6 +1,6 @@
 -- What a turn of the loop over a chunk shows. Assumes nothing.
 use mathlib.Core.Path.{◌≡◌, refl, sym, ap, ap₂, subst, ◌∙◌}
-use mathlib.Core.Bool.{Bool, true, cond, ◌&&◌}
+use mathlib.Core.Bool.{Bool, true, false, cond, ◌&&◌}
 use Prim.Native.Nat.{ℕ, suc, ◌+◌, ◌-◌, ◌^◌, ◌<◌, ◌≤◌}
 use native.Mathlib.Numerals.{add-one}
 use native.Mathlib.Omega.{arith}
@@ -10,29 +10,32 @@ use lib.Seq.{drop-cons, drop-drop, take_all, length-take-le}
 use lib.Dec.{T, ltb, leb, eqb}
 use borrow.Author.Tests.{ltb-true, ltb-false, eq-eqb}
 use Rattle.laws.proofs.Choices.{by_test}
-use Rattle.words.specs.Dwords.{dwords_in}
 use Rattle.chips.specs.declared.Chip.{Chip}
 use Rattle.command.specs.declared.State.{State}
 use Rattle.command.specs.Kinds.{length_allowed, kind_of, total_of, head_of, own_dwords}
 use Rattle.command.specs.Order.{command_of, state_after}
 use Rattle.command.proofs.Order.{after_chip, after_commands, after_objects}
-use Rattle.judge.specs.declared.Verdict.{Verdict}
-use Rattle.judge.specs.declared.Verdict.TheVariants.{Fault, Passed}
-use Rattle.judge.specs.Refusals.{judge_of, header_verdict, own_verdict, Vouches}
+use Rattle.std.specs.Prelude.{Ok, Err, Option, Some, None}
+use Rattle.std.specs.Result.{result_ok}
+use Rattle.std.specs.Bool.{then_some}
+use Rattle.chips.specs.Refusals.{number_of_refusal}
+use Rattle.judge.specs.declared.Fault.{Fault}
+use Rattle.judge.specs.Refusals.{Verdict, no_fault, judge_of, header_verdict, own_verdict, Vouches}
 use Rattle.judge.proofs.Judged.{judge_own, judge_header, header_fits, passed_fits, own_in_total, total_pos, in_range, fault_number}
 use Rattle.record.specs.Record.{record_of}
 use Rattle.reading.specs.Turns.{Header, stands_at}
 use Rattle.reading.proofs.Scans.{grown}
 use Rattle.reading.proofs.Steps.{stands_fits, stands_same}
 use Rattle.progress.specs.declared.Progress.{Progress}
-use Rattle.progress.specs.Steps.{kind_in, total_in, alone, Change, fault, unfinished, passes, judged, settled, gathered, come, beginning, between, after_change, fitted, written_by, Stage, stage, by_change, stage_after}
+use Rattle.progress.specs.Steps.{kind_in, total_in, alone, Change, fault, faulted, unfinished, passes, judged, settled, gathered, come, beginning, between, after_change, fitted, written_by, Stage, stage, by_change, stage_after}
 use Rattle.progress.specs.Parts.{gathered_in, dwords_left, Counts}
 use Rattle.progress.specs.Sound.{Sound}
 use Rattle.progress.proofs.Gathers.{gathered_all, gathered_in_lem, first_all, total_all}
 use Rattle.progress.proofs.Runs.{ran, run, run_from, run_step, run_stopped, held, run_held, run_whole, run_refused, gathers, run_short, run_command, settled_is}
 use Rattle.progress.proofs.Stages.{stage_stays, stage_event, stage_same}
 use Rattle.progress.proofs.Fold.{number_on}
-use Rattle.chunks.specs.Turns.{Ready, leaves_from, Kept, Went, Objects, no_more, one_more}
+use Rattle.chunks.specs.declared.Reached.{Reached}
+use Rattle.chunks.specs.Turns.{Ready, leaves_from, Kept, Went, LedOn, Objects, no_more, one_more}
 use Rattle.progress.proofs.Leaves.{skip_small, pass_on}
 
 -- how many dwords have been read up to dword i of the chunk, at most
@@ -61,16 +64,17 @@ module _ (st : State) (at n : ℕ) (h : List ℕ) (qc : st.commands ≤ at) (qo 
 
   sound_judged : (v : Verdict) → T (in_range v) → Sound n (after_change st at (judged v h))
   unfolding after_change
-  sound_judged (Fault m s) f =
-      let z = number_on m f in record { come = λ e. absurd (z e); commands = λ e. absurd (z e); objects = λ e. absurd (z e) }
-  sound_judged Passed f = sound_passes
+  sound_judged (Err e) f =
+      let z = number_on (number_of_refusal e.refusal) f in record { come = λ e. absurd (z e); commands = λ e. absurd (z e); objects = λ e. absurd (z e) }
+  sound_judged (Ok u) f = sound_passes
 
   pub sound_settled : Sound n (after_change st at (settled st h))
   sound_settled = sound_judged (judge_of (kind_in st h) (total_in st h) h st) (fault_number (kind_in st h) (total_in st h) h st)
 
-pub sound_fault : (st : State) (at n m s : ℕ) → T (leb 3 m && leb m 9) → Sound n (after_change st at (fault m s))
+pub sound_fault : (st : State) (at n : ℕ) (e : Fault) → T (leb 3 (number_of_refusal e.refusal) && leb (number_of_refusal e.refusal) 9)
+    → Sound n (after_change st at (faulted e))
 unfolding after_change
-sound_fault st at n m s f = let z = number_on m f in record { come = λ e. absurd (z e); commands = λ e. absurd (z e); objects = λ e. absurd (z e) }
+sound_fault st at n e f = let z = number_on (number_of_refusal e.refusal) f in record { come = λ e. absurd (z e); commands = λ e. absurd (z e); objects = λ e. absurd (z e) }
 
 pub ready_at : (l : List ℕ) (j : ℕ) (c c' : Progress) → c ≡ c' → j ≤ length l → length l ≤ 16384 → Sound (read_to l j) c' → Ready l j c
 ready_at l j c c' e p q s = record { inside = p; few = q; sound = subst (Sound (read_to l j)) (sym e) s }
@@ -178,7 +182,7 @@ module _ (l : List ℕ) (c : Progress) (i : ℕ) (r : List ℕ) (rd : Ready l i 
 
   -- and it passes
   pub passed_went : (h : List ℕ) (next : State) (c' : Progress) (r' : List ℕ) → left ≤ length l - i
-      → h ≡ gathered_in most c.own c.got (take left (drop i l)) → judge_of k (total_of k (get_or h 0 0)) h st ≡ Passed → (k ≡ 2 → ⊥)
+      → h ≡ gathered_in most c.own c.got (take left (drop i l)) → judge_of k (total_of k (get_or h 0 0)) h st ≡ no_fault → (k ≡ 2 → ⊥)
       → next ≡ state_after k h st → r' ≡ fitted r st.commands (record_of (command_of k c.place t h st)) → c' ≡ between next (c.place + t)
       → Went l c i r c' (i + left) r'
   passed_went h next c' r' w eh e n2 en er ec =
@@ -196,6 +200,9 @@ module _ (l : List ℕ) (c : Progress) (i : ℕ) (r : List ℕ) (rd : Ready l i 
 
       total_h : t ≡ total_in st h
       total_h = et ∙ ap₂ total_of kind_h (sym first_h)
+
+pub object_long : (d t : ℕ) → t ≡ total_of 7 d → 1 ≤ t
+object_long d t e = let z = total_pos 7 d in omega arith
 
 -- an OBJECT has six dwords of its own
 pub six_own : 6 ≡ own_dwords 7
@@ -218,28 +225,28 @@ module _ (st st' : State) (es : st' ≡ st) (at : ℕ) where
   settled_same h h' r r' c c' eh ec e =
       ap (λ (x : Progress). stage x r') ec ∙ e ∙ ap₂ (λ (x : State) (y : List ℕ). by_change x at (settled x y) r) es eh
 
-pub object_judged : (h : List ℕ) (st : State) (d t : ℕ) (v : Verdict) (b : Bool) → d ≡ get_or h 0 0 → t ≡ total_of 7 d → v ≡ header_verdict 7 d t → v ≡ Passed
-    → Vouches 7 h st b → b ≡ true → judge_of 7 (total_of 7 (get_or h 0 0)) h st ≡ Passed
+pub object_judged : (h : List ℕ) (st : State) (d t : ℕ) (v : Verdict) (b : Bool) → d ≡ get_or h 0 0 → t ≡ total_of 7 d → v ≡ header_verdict 7 d t → v ≡ no_fault
+    → Vouches 7 h st b → b ≡ true → judge_of 7 (total_of 7 (get_or h 0 0)) h st ≡ no_fault
 object_judged h st d t v b ed et ev e vs eb =
     judge_own 7 (total_of 7 (get_or h 0 0)) h st (ap (λ (x : ℕ). header_verdict 7 x (total_of 7 x)) (sym ed) ∙ ap (header_verdict 7 d) (sym et) ∙ sym ev ∙ e)
     ∙ vs.passes eb
 
-pub first_there : (l : List ℕ) (i d : ℕ) → d ≡ get_or l i 0 → d ≡ get_or (dwords_in l []) i 0
-unfolding dwords_in
-first_there l i d e = e
+-- a verdict that is taken as an Option
+pub ok_passed : (v : Verdict) (o : Option Unit) (u : Unit) → o ≡ result_ok v → o ≡ Some u → v ≡ no_fault
+ok_passed (Ok w) o u e q = refl
+ok_passed (Err f) o u e q = absurd (none_some (sym e ∙ q))
+  where
+    none_some : ◌≡◌ {A = Option Unit} None (Some u) → ⊥
+    none_some e = let z : ◌≡◌ {A = ℕ} 0 1 = cc in omega arith
 
 -- rows 3 and 4
 module _ (k d t : ℕ) (v : Verdict) (et : t ≡ total_of k d) (ev : v ≡ header_verdict k d t) where
-  pub header_passed : v ≡ Passed → header_verdict k d (total_of k d) ≡ Passed
-  header_passed e = ap (header_verdict k d) (sym et) ∙ sym ev ∙ e
+  pub header_passed : (u : Unit) → v ≡ Ok u → header_verdict k d (total_of k d) ≡ no_fault
+  header_passed u e = ap (header_verdict k d) (sym et) ∙ sym ev ∙ e
 
-  pub header_skip : (st : State) (at m s : ℕ) → Counts st at → v ≡ Fault m s → at + s < 2 ^ 32
-  header_skip st at m s q e =
-      let f = sym ev ∙ e in skip_small st at (d ∷ []) k t v (e ∙ sym (judge_header k t (d ∷ []) st m s f)) m s q e
-
-pub stands_there : (l : List ℕ) → length l ≡ length (dwords_in l [])
-unfolding dwords_in
-stands_there l = refl
+  pub header_skip : (st : State) (at : ℕ) (f : Fault) → Counts st at → v ≡ Err f → at + f.skip < 2 ^ 32
+  header_skip st at f q e =
+      skip_small st at (d ∷ []) k t v (e ∙ sym (judge_header k t (d ∷ []) st f (sym ev ∙ e))) f q e
 
 -- between two commands
 module _ (l : List ℕ) (st : State) (at i : ℕ) (r : List ℕ) (rd : Ready l i (between st at)) where
@@ -264,28 +271,26 @@ module _ (l : List ℕ) (st : State) (at i : ℕ) (r : List ℕ) (rd : Ready l i
       total_as t e = e ∙ ap (λ (x : ℕ). total_of x d) ek
 
       -- rows 3 and 4 refuse it
-      pub fault_went : (v : Verdict) (t m s : ℕ) (c' : Progress) → t ≡ total_of k d → v ≡ header_verdict k d t → v ≡ Fault m s → c' ≡ after_change st at (fault m s)
-          → Went l (between st at) i r c' (i + 1) r
+      pub fault_went : (v : Verdict) (t : ℕ) (e : Fault) (n : ℕ) (c' : Progress) → t ≡ total_of k d → v ≡ header_verdict k d t → v ≡ Err e
+          → n ≡ number_of_refusal e.refusal → c' ≡ after_change st at (fault n e.skip) → Went l (between st at) i r c' (i + 1) r
       unfolding after_change written_by
-      fault_went v t m s c' et ev e ec =
-          let hv : header_verdict kd d td ≡ Fault m s = sym (ev ∙ ap₂ (λ (x y : ℕ). header_verdict x d y) ek (total_as t et)) ∙ e in
+      fault_went v t e n c' et ev ve en ef =
+          let ec : c' ≡ after_change st at (faulted e) = ef ∙ ap (λ (y : ℕ). after_change st at (fault y e.skip)) en in
+          let hv : header_verdict kd d td ≡ Err e = sym (ev ∙ ap₂ (λ (x y : ℕ). header_verdict x d y) ek (total_as t et)) ∙ ve in
           let f = fault_range hv in
           let w = rd.few in
-          event_went l (between st at) i r (i + 1) (fault m s) c' r
-          (ap (run (between st at)) dropped ∙ run_refused st at d ds m s hv (number_on m f)
-          ∙ sym (stopped_run f))
+          event_went l (between st at) i r (i + 1) (faulted e) c' r
+          (ap (run (between st at)) dropped ∙ run_refused st at d ds e hv (number_on (number_of_refusal e.refusal) f)
+          ∙ sym (run_stopped (after_change st at (faulted e)) (number_on (number_of_refusal e.refusal) f) ds))
           (ap (λ (x : Progress). stage x r) ec)
           (omega arith)
-          (ready_at l (i + 1) c' (after_change st at (fault m s)) ec (omega arith) w (sound_fault st at (read_to l (i + 1)) m s f))
+          (ready_at l (i + 1) c' (after_change st at (faulted e)) ec (omega arith) w (sound_fault st at (read_to l (i + 1)) e f))
         where
-          fault_range : header_verdict kd d td ≡ Fault m s → T (leb 3 m && leb m 9)
-          fault_range hv = subst (λ (x : Verdict). T (in_range x)) (judge_header kd td (d ∷ []) st m s hv) (fault_number kd td (d ∷ []) st)
+          fault_range : header_verdict kd d td ≡ Err e → T (leb 3 (number_of_refusal e.refusal) && leb (number_of_refusal e.refusal) 9)
+          fault_range hv = subst (λ (x : Verdict). T (in_range x)) (judge_header kd td (d ∷ []) st e hv) (fault_number kd td (d ∷ []) st)
 
-          stopped_run : T (leb 3 m && leb m 9) → run_from st at (fault m s) ds ≡ ran [] (after_change st at (fault m s))
-          stopped_run f = run_stopped (after_change st at (fault m s)) (number_on m f) ds
-
-      module _ (hp : header_verdict k d (total_of k d) ≡ Passed) where
-        passes_as : header_verdict kd d td ≡ Passed
+      module _ (hp : header_verdict k d (total_of k d) ≡ no_fault) where
+        passes_as : header_verdict kd d td ≡ no_fault
         passes_as = ap (λ (x : ℕ). header_verdict x d (total_of x d)) (sym ek) ∙ hp
 
         -- the chunk does not have all of it
@@ -316,13 +321,11 @@ module _ (l : List ℕ) (st : State) (at i : ℕ) (r : List ℕ) (rd : Ready l i
             (record { come = λ e. omega arith; commands = λ e. rd.sound.commands refl; objects = λ e. rd.sound.objects refl }))
 
         module _ (t : ℕ) (et : t ≡ total_of k d) (w : t ≤ length l - i) where
-          pub own_there : i + own_dwords k ≤ length (dwords_in l [])
-          unfolding dwords_in
+          pub own_there : i + own_dwords k ≤ length l
           own_there = let z = own_in_total k d (total_of k d) hp in omega arith
 
-          module _ (h : List ℕ) (eh : h ≡ head_of k (drop i (dwords_in l []))) where
+          module _ (h : List ℕ) (eh : h ≡ head_of k (drop i l)) where
             head_is : h ≡ head_of kd (d ∷ ds)
-            unfolding dwords_in
             head_is = eh ∙ ap₂ head_of ek dropped
 
             whole_run : run (between st at) (drop i l) ≡ run_from st at (settled st h) (drop (i + t) l)
@@ -355,14 +358,14 @@ module _ (l : List ℕ) (st : State) (at i : ℕ) (r : List ℕ) (rd : Ready l i
                 (sound_settled st at (read_to l (i + t)) h (rd.sound.commands refl) (rd.sound.objects refl) (omega arith)))
 
             -- and it passes, and is not END
-            pub quick_went : (next : State) (r' : List ℕ) → (k ≡ 2 → ⊥) → own_verdict k h st ≡ Passed → next ≡ state_after k h st
+            pub quick_went : (next : State) (r' : List ℕ) → (k ≡ 2 → ⊥) → own_verdict k h st ≡ no_fault → next ≡ state_after k h st
                 → r' ≡ fitted r st.commands (record_of (command_of k at t h st)) → Went l (between st at) i r (between next (at + t)) (i + t) r'
             quick_went next r' n e en er =
                 whole_went (between next (at + t)) r'
                 (pass_on st at h k t kind_head (sym total_head) next r r' (between next (at + t)) en er refl n
                 ∙ ap (λ (x : Change). by_change st at x r) (sym passes_is))
               where
-                verdict : judge_of (kind_in st h) (total_in st h) h st ≡ Passed
+                verdict : judge_of (kind_in st h) (total_in st h) h st ≡ no_fault
                 verdict =
                     sym (ap₂ (λ (x y : ℕ). judge_of x y h st) kind_head (sym total_head))
                     ∙ judge_own k t h st (ap (λ (x : ℕ). header_verdict k x t) first_is ∙ ap (header_verdict k d) et ∙ hp)
@@ -378,14 +381,14 @@ module _ (l : List ℕ) (st : State) (at i : ℕ) (r : List ℕ) (rd : Ready l i
   unfolding total_of
   end_total = refl
 
-  end_header : header_verdict 2 d (total_of 2 d) ≡ Passed
+  end_header : header_verdict 2 d (total_of 2 d) ≡ no_fault
   unfolding header_verdict length_allowed total_of
   end_header = refl
 
-  pub end_own : i + own_dwords 2 ≤ length (dwords_in l [])
+  pub end_own : i + own_dwords 2 ≤ length l
   end_own = own_there l st at i r rd q d ed 2 ek end_header 1 end_total (omega arith)
 
-  module _ (h : List ℕ) (eh : h ≡ head_of 2 (drop i (dwords_in l []))) where
+  module _ (h : List ℕ) (eh : h ≡ head_of 2 (drop i l)) where
     pub end_kind : 2 ≡ kind_in st h
     end_kind = kind_head l st at i r rd q d ed 2 ek end_header 1 end_total (omega arith) h eh
 
@@ -409,14 +412,14 @@ kept_start l c i r rd = record { forth = omega arith; ready = rd; leaves = refl 
 
 -- the command at a dword, by rows 3 to 5
 module _ (l : List ℕ) (st : State) (at i : ℕ) (r : List ℕ) (rd : Ready l i (between st at)) (q : i < length l) (d : ℕ) (ed : d ≡ get_or l i 0) (k : ℕ)
-    (ek : k ≡ kind_of st.chip d) (v : Verdict) (ev : v ≡ header_verdict k d (length l - i)) (e : v ≡ Passed) where
-  here_passed : header_verdict k d (total_of k d) ≡ Passed
+    (ek : k ≡ kind_of st.chip d) (v : Verdict) (ev : v ≡ header_verdict k d (length l - i)) (e : v ≡ no_fault) where
+  here_passed : header_verdict k d (total_of k d) ≡ no_fault
   here_passed = header_fits k d (length l - i) (total_of k d) (sym ev ∙ e) (omega arith)
 
   here_fits : total_of k d ≤ length l - i
   here_fits = passed_fits k d (length l - i) (sym ev ∙ e)
 
-  pub here_own : i + own_dwords k ≤ length (dwords_in l [])
+  pub here_own : i + own_dwords k ≤ length l
   here_own = own_there l st at i r rd q d ed k ek here_passed (total_of k d) refl here_fits
 
   pub here_at : (t : ℕ) → t ≡ total_of k d → at + t ≤ 16384
@@ -425,21 +428,19 @@ module _ (l : List ℕ) (st : State) (at i : ℕ) (r : List ℕ) (rd : Ready l i
   pub here_i : (t : ℕ) → t ≡ total_of k d → i + t ≤ length l
   here_i t et = let z = here_fits in omega arith
 
-  pub here_kept : (t : ℕ) (h : List ℕ) (w : Verdict) (next : State) (r' : List ℕ) → t ≡ total_of k d → h ≡ head_of k (drop i (dwords_in l [])) → (k ≡ 2 → ⊥)
-      → w ≡ own_verdict k h st → w ≡ Passed → next ≡ state_after k h st → r' ≡ fitted r st.commands (record_of (command_of k at t h st))
-      → Kept l (between st at) i r (between next (at + t)) (i + t) r'
-  here_kept t h w next r' et eh n ew e' en er =
-      (quick_went l st at i r rd q d ed k ek here_passed t et (let z = here_fits in omega arith) h eh next r' n (sym ew ∙ e') en er).kept
+  pub here_went : (t : ℕ) (h : List ℕ) (w : Verdict) (next : State) (r' : List ℕ) → t ≡ total_of k d → h ≡ head_of k (drop i l) → (k ≡ 2 → ⊥)
+      → w ≡ own_verdict k h st → w ≡ no_fault → next ≡ state_after k h st → r' ≡ fitted r st.commands (record_of (command_of k at t h st))
+      → Went l (between st at) i r (between next (at + t)) (i + t) r'
+  here_went t h w next r' et eh n ew e' en er =
+      quick_went l st at i r rd q d ed k ek here_passed t et (let z = here_fits in omega arith) h eh next r' n (sym ew ∙ e') en er
 
 -- a turn of the loop over commands that start with the same dword d
 module _ (l : List ℕ) (c₀ : Progress) (i₀ : ℕ) (r₀ : List ℕ) (st : State) (at i : ℕ) (r : List ℕ) (k d t : ℕ) (ch : Chip) (kept : Kept l c₀ i₀ r₀ (between st at) i r)
-    (hd : Header ch k d) (ec : st.chip ≡ ch) (et : t ≡ total_of k d) (s : Bool) (es : s ≡ stands_at (dwords_in l []) i t d) (y : s ≡ true) where
+    (hd : Header ch k d) (ec : st.chip ≡ ch) (et : t ≡ total_of k d) (s : Bool) (es : s ≡ stands_at l i t d) (y : s ≡ true) where
   again_fits : t ≤ length l - i
-  unfolding dwords_in
   again_fits = stands_fits l i t d s es y
 
   again_same : d ≡ get_or l i 0
-  unfolding dwords_in
   again_same = stands_same l i t d s es y
 
   again_inside : i < length l
@@ -448,11 +449,11 @@ module _ (l : List ℕ) (c₀ : Progress) (i₀ : ℕ) (r₀ : List ℕ) (st : S
   kind_again : k ≡ kind_of st.chip d
   kind_again = hd.kind ∙ ap (λ (x : Chip). kind_of x d) (sym ec)
 
-  pub again_own : i + own_dwords k ≤ length (dwords_in l [])
+  pub again_own : i + own_dwords k ≤ length l
   again_own = own_there l st at i r kept.ready again_inside d again_same k kind_again hd.allowed t et again_fits
 
-  pub again_first : d ≡ get_or (dwords_in l []) i 0
-  again_first = first_there l i d again_same
+  pub again_first : d ≡ get_or l i 0
+  again_first = again_same
 
   pub again_at : at + t ≤ 16384
   again_at =
@@ -464,7 +465,7 @@ module _ (l : List ℕ) (c₀ : Progress) (i₀ : ℕ) (r₀ : List ℕ) (st : S
   pub again_less : length l - (i + t) < length l - i
   again_less = let z = again_fits in let p = total_pos k d in let q = again_inside in omega arith
 
-  module _ (h : List ℕ) (eh : h ≡ head_of k (drop i (dwords_in l []))) (next : State) (en : next ≡ state_after k h st) where
+  module _ (h : List ℕ) (eh : h ≡ head_of k (drop i l)) (next : State) (en : next ≡ state_after k h st) where
     pub again_chip : next.chip ≡ ch
     again_chip = ap (λ (x : State). x.chip) en ∙ after_chip k h st ∙ ec
 
@@ -475,35 +476,31 @@ module _ (l : List ℕ) (c₀ : Progress) (i₀ : ℕ) (r₀ : List ℕ) (st : S
         (quick_went l st at i r kept.ready again_inside d again_same k kind_again hd.allowed t et again_fits h eh next r' hd.goes (ev.passes e) en er)
 
 -- the OBJECTs that were judged
-pub objects_more : (l : List ℕ) (st : State) (t d i j : ℕ) → Objects l st t d i j → stands_at l j t d ≡ true → own_verdict 7 (head_of 7 (drop j l)) st ≡ Passed
+pub objects_more : (l : List ℕ) (st : State) (t d i j : ℕ) → Objects l st t d i j → stands_at l j t d ≡ true → own_verdict 7 (head_of 7 (drop j l)) st ≡ no_fault
     → Objects l st t d i (j + t)
 objects_more l st t d i j no_more s p = one_more s p no_more
 objects_more l st t d i j (one_more s₀ p₀ o) s p = one_more s₀ p₀ (objects_more l st t d (i + t) j o s p)
 
 -- the first of them
 pub record Next (l : List ℕ) (st : State) (t d i to : ℕ) : Type 0 where
-  pub stands : true ≡ stands_at (dwords_in l []) i t d
-  pub passes : own_verdict 7 (head_of 7 (drop i l)) st ≡ Passed
+  pub stands : true ≡ stands_at l i t d
+  pub passes : own_verdict 7 (head_of 7 (drop i l)) st ≡ no_fault
   pub rest : Objects l st t d (i + t) to
 
 pub objects_next : (l : List ℕ) (st : State) (t d i to : ℕ) → Objects l st t d i to → i < to → Next l st t d i to
-unfolding dwords_in
 objects_next l st t d i to no_more q = absurd (omega arith)
 objects_next l st t d i to (one_more s p o) q = record { stands = sym s; passes = p; rest = o }
 
 -- one more of them, by the loop that judges
 module _ (l : List ℕ) (ch : Chip) (t d i : ℕ) (hd : Header ch 7 d) (et : t ≡ total_of 7 d) (f : i ≤ length l) (s : Bool)
-    (es : s ≡ stands_at (dwords_in l []) i t d) (y : s ≡ true) where
+    (es : s ≡ stands_at l i t d) (y : s ≡ true) where
   judged_fits : t ≤ length l - i
-  unfolding dwords_in
   judged_fits = stands_fits l i t d s es y
 
-  pub judged_own : i + own_dwords 7 ≤ length (dwords_in l [])
-  unfolding dwords_in
+  pub judged_own : i + own_dwords 7 ≤ length l
   judged_own = let z = own_in_total 7 d (total_of 7 d) hd.allowed in let p = total_pos 7 d in let w = judged_fits in omega arith
 
-  pub judged_first : d ≡ get_or (dwords_in l []) i 0
-  unfolding dwords_in
+  pub judged_first : d ≡ get_or l i 0
   judged_first = stands_same l i t d s es y
 
   pub judged_inside : i + t ≤ length l
@@ -512,9 +509,8 @@ module _ (l : List ℕ) (ch : Chip) (t d i : ℕ) (hd : Header ch 7 d) (et : t �
   pub judged_less : length l - (i + t) < length l - i
   judged_less = let p = total_pos 7 d in let w = judged_fits in omega arith
 
-  pub judged_more : (st : State) (from : ℕ) → Objects l st t d from i → (h : List ℕ) → h ≡ head_of 7 (drop i (dwords_in l [])) → (v : Bool) → Vouches 7 h st v → v ≡ true
+  pub judged_more : (st : State) (from : ℕ) → Objects l st t d from i → (h : List ℕ) → h ≡ head_of 7 (drop i l) → (v : Bool) → Vouches 7 h st v → v ≡ true
       → Objects l st t d from (i + t)
-  unfolding dwords_in
   judged_more st from os h eh v vs e =
       objects_more l st t d from i os (sym es ∙ y) (ap (λ (x : List ℕ). own_verdict 7 x st) (sym eh) ∙ vs.passes e)
 
@@ -528,10 +524,10 @@ module _ (l : List ℕ) (c₀ : Progress) (i₀ : ℕ) (r₀ : List ℕ) (st₀ 
     (kept : Kept l c₀ i₀ r₀ (between st at) i r) (hd : Header st₀.chip 7 d) (ec : st.chip ≡ st₀.chip) (et : t ≡ total_of 7 d)
     (alike : (x : List ℕ) → own_verdict 7 x st ≡ own_verdict 7 x st₀) where
   module _ (x : Next l st₀ t d i to) where
-    pub next_own : i + own_dwords 7 ≤ length (dwords_in l [])
+    pub next_own : i + own_dwords 7 ≤ length l
     next_own = again_own l c₀ i₀ r₀ st at i r 7 d t st₀.chip kept hd ec et true x.stands refl
 
-    pub next_first : d ≡ get_or (dwords_in l []) i 0
+    pub next_first : d ≡ get_or l i 0
     next_first = again_first l c₀ i₀ r₀ st at i r 7 d t st₀.chip kept hd ec et true x.stands refl
 
     pub next_at : at + t ≤ 16384
@@ -543,7 +539,7 @@ module _ (l : List ℕ) (c₀ : Progress) (i₀ : ℕ) (r₀ : List ℕ) (st₀ 
     pub next_less : length l - (i + t) < length l - i
     next_less = again_less l c₀ i₀ r₀ st at i r 7 d t st₀.chip kept hd ec et true x.stands refl
 
-    module _ (h : List ℕ) (eh : h ≡ head_of 7 (drop i (dwords_in l []))) (next : State) (en : next ≡ state_after 7 h st) where
+    module _ (h : List ℕ) (eh : h ≡ head_of 7 (drop i l)) (next : State) (en : next ≡ state_after 7 h st) where
       pub next_chip : next.chip ≡ st₀.chip
       next_chip = again_chip l c₀ i₀ r₀ st at i r 7 d t st₀.chip kept hd ec et true x.stands refl h eh next en
 
@@ -552,7 +548,6 @@ module _ (l : List ℕ) (c₀ : Progress) (i₀ : ℕ) (r₀ : List ℕ) (st₀ 
 
       pub next_kept : (r' : List ℕ) → r' ≡ fitted r st.commands (record_of (command_of 7 at t h st))
           → Kept l c₀ i₀ r₀ (between next (at + t)) (i + t) r'
-      unfolding dwords_in
       next_kept r' er =
           again_kept l c₀ i₀ r₀ st at i r 7 d t st₀.chip kept hd ec et true x.stands refl h eh next en true r'
           (record { passes = λ e. alike h ∙ ap (λ (y : List ℕ). own_verdict 7 y st₀) eh ∙ x.passes }) refl er
@@ -607,6 +602,19 @@ module _ (l : List ℕ) (c₀ : Progress) (i₀ : ℕ) (r₀ : List ℕ) (c : Pr
   run_done p = sym (ap (stage_after (stage c r)) (drop_of_length-le l p)) ∙ k.leaves
 
 pub ruleset run_laws = (run_halted, run_done)
+
+-- where some commands lead on
+module _ (l : List ℕ) (c : Progress) (i : ℕ) (r r' : List ℕ) where
+  pub led_then : (x : Reached) (t : Bool) (o : Option Reached) → Kept l c i r (between x.st x.at) x.next r' → (t ≡ true → i < x.next)
+      → (t ≡ false → r' ≡ r) → o ≡ then_some t x → LedOn l c i r o r'
+  led_then x true o k p q e = subst (λ (y : Option Reached). LedOn l c i r y r') (sym e) (record { on = p refl; kept = k })
+  led_then x false o k p q e = subst (λ (y : Option Reached). LedOn l c i r y r') (sym e) (q refl)
+
+  pub led_some : (o : Option Reached) (x : Reached) → o ≡ Some x → LedOn l c i r o r' → Went l c i r (between x.st x.at) x.next r'
+  led_some o x e w = subst (λ (y : Option Reached). LedOn l c i r y r') e w
+
+  pub led_none : (o : Option Reached) → o ≡ None → LedOn l c i r o r' → r' ≡ r
+  led_none o e w = subst (λ (y : Option Reached). LedOn l c i r y r') e w
 
 -- every turn of the loops gets on
 pub kept_less : (l : List ℕ) (c : Progress) (i : ℕ) (r : List ℕ) (c' : Progress) (j : ℕ) (r' : List ℕ) → Kept l c i r c' j r' → (j ≡ i → ⊥) → i < length l

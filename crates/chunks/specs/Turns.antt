@@ -1,15 +1,15 @@
 -- What the code keeps while it reads a chunk: from each dword on, what is left to read leaves what the whole chunk leaves.
-use Rattle.std.specs.Prelude.{◌≡◌, true, List, ℕ, ◌+◌, ◌-◌, ◌<◌, ◌≤◌, length, get_or, drop}
+use Rattle.std.specs.Prelude.{◌≡◌, true, List, ℕ, ◌+◌, ◌-◌, ◌<◌, ◌≤◌, length, get_or, drop, Option, Some, None}
 use Rattle.chips.specs.declared.Chip.{Chip}
 use Rattle.command.specs.declared.State.{State}
 use Rattle.command.specs.Kinds.{kind_of, total_of, head_of}
-use Rattle.judge.specs.declared.Verdict.TheVariants.{Passed}
-use Rattle.judge.specs.Refusals.{header_verdict, own_verdict}
+use Rattle.judge.specs.Refusals.{no_fault, header_verdict, own_verdict}
 use Rattle.reading.specs.Turns.{stands_at}
 use Rattle.progress.specs.declared.Progress.{Progress}
-use Rattle.progress.specs.Steps.{kind_in, Stage, stage, stage_after}
+use Rattle.progress.specs.Steps.{kind_in, between, Stage, stage, stage_after}
 use Rattle.progress.specs.Parts.{dwords_left}
 use Rattle.progress.specs.Sound.{Sound}
+use Rattle.chunks.specs.declared.Reached.{Reached}
 
 -- the dwords l, all among the first 16,384 of the batch, can be read from dword i on
 pub record Ready (l : List ℕ) (i : ℕ) (c : Progress) : Type 0 where
@@ -32,16 +32,21 @@ pub record Went (l : List ℕ) (c : Progress) (i : ℕ) (r : List ℕ) (c' : Pro
   pub on : i < j
   pub kept : Kept l c i r c' j r'
 
+-- Some commands from dword i on lead to where reading goes on, between two; or none is known to pass, and nothing has changed.
+abbrev pub LedOn : List ℕ → Progress → ℕ → List ℕ → Option Reached → List ℕ → Type 0
+LedOn l c i r None r' = r' ≡ r
+LedOn l c i r (Some x) r' = Went l c i r (between x.st x.at) x.next r'
+
 -- the command at dword i starts with the dword d, is of kind k in the chip's table, and passes rows 3 and 4
 pub record Begins (c : Chip) (l : List ℕ) (i k d : ℕ) : Type 0 where
   pub first : d ≡ get_or l i 0
   pub kind : k ≡ kind_of c d
-  pub allowed : header_verdict k d (total_of k d) ≡ Passed
+  pub allowed : header_verdict k d (total_of k d) ≡ no_fault
 
 -- from dword i to dword j stand OBJECTs of t dwords each with the first dword d, which pass after what st says
 pub data Objects (l : List ℕ) (st : State) (t d : ℕ) : ℕ → ℕ → Type 0 where
   no_more : {i : ℕ} → Objects l st t d i i
-  one_more : {i j : ℕ} → stands_at l i t d ≡ true → own_verdict 7 (head_of 7 (drop i l)) st ≡ Passed → Objects l st t d (i + t) j
+  one_more : {i j : ℕ} → stands_at l i t d ≡ true → own_verdict 7 (head_of 7 (drop i l)) st ≡ no_fault → Objects l st t d (i + t) j
       → Objects l st t d i j
 
 -- the last dwords of the OBJECT that is not whole are so many of the chunk, from dword i on

@@ -1,19 +1,18 @@
 // A chunk of a batch, read on from where the reading has come to.
 #![tactic(auto)]
 
-ghost use Rattle.std.specs.Prelude.{◌≡◌, true, ◌+◌, ◌-◌, ◌<◌, ◌≤◌, length, get_or, take, drop};
+ghost use Rattle.std.specs.Prelude.{List, ℕ, ◌≡◌, true, ◌+◌, ◌-◌, ◌<◌, ◌≤◌, length, get_or, take, drop};
 ghost use Rattle.command.specs.Kinds.{kind_of, total_of, own_dwords};
-ghost use Rattle.judge.specs.declared.Verdict.TheVariants.{Passed};
-ghost use Rattle.judge.specs.Refusals.{judge_of};
+ghost use Rattle.judge.specs.Refusals.{Verdict, no_fault, judge_of, own_verdict};
 ghost use Rattle.reading.specs.Turns.{Header};
 ghost use Rattle.progress.specs.Steps.{alone, between, stage, stage_after};
 ghost use Rattle.progress.specs.Parts.{gathered_in};
-ghost use Rattle.chunks.specs.Turns.{Ready, Kept, Went, Begins, Objects, Completes};
+ghost use Rattle.chunks.specs.Turns.{Ready, Kept, Went, LedOn, Begins, Objects, Completes};
 
 use command::State;
 use command::head::{kind, own_count, own_dwords, total};
 use command::states::after;
-use judge::{Verdict, descriptor_load, header_verdict, single_verdict, sound_object, vfe};
+use judge::{Fault, descriptor_load, header_verdict, single_verdict, sound_object, vfe};
 use progress::{
     Progress, finish, gather, halt, hold, left_of, open, same, same_dwords, same_state, settle,
     write_record,
@@ -29,13 +28,10 @@ pub struct Turned {
 
 // Does a whole OBJECT with own dwords h pass rows 3 to 9? A quick answer: where it is no, `settle` decides.
 fn sound_whole(h: [u32; 8], st: State) -> bool
-    ensures { result ≡ true → judge_of 7 (total_of 7 (get_or h 0 0)) h st ≡ Passed }
+    ensures { result ≡ true → judge_of 7 (total_of 7 (get_or h 0 0)) h st ≡ no_fault }
 {
     let d = h[0];
-    match header_verdict(7, d, total(7, d) as usize) {
-        Verdict::Fault { number, skip } => false,
-        Verdict::Passed => sound_object(h, st),
-    }
+    header_verdict(7, d, total(7, d) as usize).is_ok() && sound_object(h, st)
 }
 
 // The OBJECT of t dwords that is not whole, where the chunk has its last `left` dwords from i on. Code of its own: most cuts are in one.
@@ -112,11 +108,21 @@ fn cut(chunk: &[u32], i: usize, k: u32, d: u32, n: usize) -> [u32; 8]
     )
 }
 
-// The command at i, which stands at a place, whose first dword d passes rows 3 and 4: whole, or as much as the chunk has of it.
-fn begun(st: State, at: u32, chunk: &[u32], i: usize, k: u32, d: u32, records: &mut [u32]) -> Turned
-    requires { Ready chunk.now i (between st at) × (i < length chunk.now) × Begins st.chip chunk.now i k d }
-    ensures { Went chunk.now (between st at) i records.old result.progress result.next records.new }
+// Where reading stands between two commands: what those before have set, the place in the batch, and the next dword of the chunk.
+#[derive(Clone, Copy)]
+pub struct Reached {
+    pub st: State,
+    pub at: u32,
+    pub next: usize,
+}
+
+// The command there, whose first dword d passes rows 3 and 4: whole, or as much as the chunk has of it.
+fn begun(here: Reached, chunk: &[u32], k: u32, d: u32, records: &mut [u32]) -> Turned
+    requires { Ready chunk.now here.next (between here.st here.at) × (here.next < length chunk.now)
+        × Begins here.st.chip chunk.now here.next k d }
+    ensures { Went chunk.now (between here.st here.at) here.next records.old result.progress result.next records.new }
 {
+    let Reached { st, at, next: i } = here;
     let t = total(k, d);
     let n = chunk.len() - i;
     if n < t as usize {
@@ -125,45 +131,35 @@ fn begun(st: State, at: u32, chunk: &[u32], i: usize, k: u32, d: u32, records: &
             next: i + n,
         };
     }
-    let none: [u8; 0] = [];
-    let h = own_dwords(chunk, &none, i, k, d);
+    let h = own_dwords(chunk, i, k, d);
     Turned {
         progress: same(settle(same_state(st), at, same_dwords(h), records)),
         next: i + t as usize,
     }
 }
 
-// The command at i, which stands at a place.
-fn first(st: State, at: u32, chunk: &[u32], i: usize, records: &mut [u32]) -> Turned
-    requires { Ready chunk.now i (between st at) × (i < length chunk.now) }
-    ensures { Went chunk.now (between st at) i records.old result.progress result.next records.new }
+// The command there.
+fn first(here: Reached, chunk: &[u32], records: &mut [u32]) -> Turned
+    requires { Ready chunk.now here.next (between here.st here.at) × (here.next < length chunk.now) }
+    ensures { Went chunk.now (between here.st here.at) here.next records.old result.progress result.next records.new }
 {
+    let Reached { st, at, next: i } = here;
     let d = chunk[i];
-    let chip = st.chip;
-    let k = kind(chip, d);
+    let k = kind(st.chip, d);
     if k == 2 {
-        let none: [u8; 0] = [];
-        let h = own_dwords(chunk, &none, i, 2, d);
+        let h = own_dwords(chunk, i, 2, d);
         return Turned {
             progress: finish(st, at, h, records),
             next: i + 1,
         };
     }
     match header_verdict(k, d, total(k, d) as usize) {
-        Verdict::Fault { number, skip } => Turned {
-            progress: halt(st, at, number, skip),
+        Err(fault) => Turned {
+            progress: halt(st, at, fault.refusal.number(), fault.skip),
             next: i + 1,
         },
-        Verdict::Passed => begun(st, at, chunk, i, k, d, records),
+        Ok(()) => begun(here, chunk, k, d, records),
     }
-}
-
-// How far whole commands that pass lead: what they set, the place after them, and the next dword of the chunk.
-#[derive(Clone, Copy)]
-pub struct Reached {
-    pub st: State,
-    pub at: u32,
-    pub next: usize,
 }
 
 // Where the whole OBJECTs from a dword on end that start with the same dword d, while the quick test vouches for them.
@@ -171,209 +167,147 @@ fn sound_objects(chunk: &[u32], from: usize, t: usize, d: u32, st: State) -> usi
     requires { (from ≤ length chunk.now) × (length chunk.now ≤ 16384) × Header st.chip 7 d × (t ≡ total_of 7 d) }
     ensures { Objects chunk.now st t d from result }
 {
-    let none: [u8; 0] = [];
     let mut i = from;
-    while repeated(chunk, &none, chunk.len(), i, t, d) {
-        let h = own_dwords(chunk, &none, i, 7, d);
-        if !sound_object(h, st) {
-            return i;
-        }
-        i = i + t;
+    while repeated(chunk, i, t, d) && sound_object(own_dwords(chunk, i, 7, d), st) {
+        i += t;
     }
     i
 }
 
 // Those OBJECTs, while their records fit. They are judged first, so that both loops are short.
-fn objects(
-    chunk: &[u32],
-    from: usize,
-    place: u32,
-    d: u32,
-    before: State,
-    records: &mut [u32],
-) -> Reached
-    requires { Ready chunk.now from (between before place) × Header before.chip 7 d }
-    ensures { Kept chunk.now (between before place) from records.old (between result.st result.at) result.next
-        records.new }
+fn objects(chunk: &[u32], here: Reached, d: u32, records: &mut [u32]) -> Option<Reached>
+    requires { Ready chunk.now here.next (between here.st here.at) × Header here.st.chip 7 d }
+    ensures { LedOn chunk.now (between here.st here.at) here.next records.old result records.new }
 {
-    let none: [u8; 0] = [];
     let t = total(7, d);
-    let to = sound_objects(chunk, from, t as usize, d, before);
-    let mut st = before;
-    let mut at = place;
-    let mut i = from;
-    while i < to {
-        if records.len() / 16 <= st.commands as usize {
-            return Reached { st, at, next: i };
-        }
-        let h = own_dwords(chunk, &none, i, 7, d);
+    let to = sound_objects(chunk, here.next, t as usize, d, here.st);
+    let Reached {
+        mut st,
+        mut at,
+        next: mut i,
+    } = here;
+    // by hand: state and place go on with i, and the loop ends early where no record fits
+    while i < to && (st.commands as usize) < records.len() / 16 {
+        let h = own_dwords(chunk, i, 7, d);
         write_record(records, 7, h, at, t, st);
         st = after(7, h, st);
-        at = at + t;
-        i = i + t as usize;
+        at += t;
+        i += t as usize;
     }
-    Reached { st, at, next: i }
+    (here.next < i).then_some(Reached { st, at, next: i })
 }
 
-// The no-ops from a dword on.
-fn no_ops(chunk: &[u32], from: usize, place: u32, before: State, records: &mut [u32]) -> Reached
-    requires { Ready chunk.now from (between before place) }
-    ensures { Kept chunk.now (between before place) from records.old (between result.st result.at) result.next
-        records.new }
+// The no-ops from there on.
+fn no_ops(chunk: &[u32], here: Reached, records: &mut [u32]) -> Option<Reached>
+    requires { Ready chunk.now here.next (between here.st here.at) }
+    ensures { LedOn chunk.now (between here.st here.at) here.next records.old result records.new }
 {
-    let none: [u8; 0] = [];
-    let mut st = before;
-    let mut at = place;
-    let mut i = from;
-    while repeated(chunk, &none, chunk.len(), i, 1, 0) {
-        let h = own_dwords(chunk, &none, i, 0, 0);
+    let Reached {
+        mut st,
+        mut at,
+        next: mut i,
+    } = here;
+    // by hand: state and place go on with i, one loop for what is read and what is written
+    while repeated(chunk, i, 1, 0) {
+        let h = own_dwords(chunk, i, 0, 0);
         write_record(records, 0, h, at, 1, st);
         st = after(0, h, st);
-        at = at + 1;
+        at += 1;
         i += 1;
     }
-    Reached { st, at, next: i }
+    (here.next < i).then_some(Reached { st, at, next: i })
 }
 
-// The command at i, of kind k, with first dword d, where it is whole and passes and is not END.
-fn advance_other(
+// The command there, of kind k, with first dword d, where it is whole and passes, rows 6 to 9 by `judge`.
+fn advance_by<F: Fn([u32; 8], State) -> Result<(), Fault>>(
     chunk: &[u32],
-    i: usize,
-    at: u32,
+    here: Reached,
     k: u32,
     d: u32,
-    st: State,
     records: &mut [u32],
-) -> Reached
-    requires { Ready chunk.now i (between st at) × (i < length chunk.now) × (d ≡ get_or chunk.now i 0) × (k ≡ kind_of st.chip d) }
-    ensures { Kept chunk.now (between st at) i records.old (between result.st result.at) result.next
-        records.new }
+    judge: F,
+) -> Option<Reached>
+    requires stands { Ready chunk.now here.next (between here.st here.at) × (here.next < length chunk.now)
+        × (d ≡ get_or chunk.now here.next 0) × (k ≡ kind_of here.st.chip d) × (k ≡ 2 → ⊥) }
+    requires judges { F.IsAlwaysCallable judge
+        × ((h : List ℕ) (s : State) (v : Verdict) → F.post judge h s v → v ≡ own_verdict k h s) }
+    ensures { LedOn chunk.now (between here.st here.at) here.next records.old result records.new }
+{
+    let Reached { st, at, next: i } = here;
+    header_verdict(k, d, chunk.len() - i).ok()?;
+    let h = own_dwords(chunk, i, k, d);
+    let t = total(k, d);
+    judge(h, st).ok()?;
+    write_record(records, k, h, at, t, st);
+    Some(Reached {
+        st: after(k, h, st),
+        at: at + t,
+        next: i + t as usize,
+    })
+}
+
+// The command there, of kind k, with first dword d, where it is whole and passes and is not END. A VFE and a descriptor load get code of
+// their own.
+fn advance_other(
+    chunk: &[u32],
+    here: Reached,
+    k: u32,
+    d: u32,
+    records: &mut [u32],
+) -> Option<Reached>
+    requires { Ready chunk.now here.next (between here.st here.at) × (here.next < length chunk.now)
+        × (d ≡ get_or chunk.now here.next 0) × (k ≡ kind_of here.st.chip d) }
+    ensures { LedOn chunk.now (between here.st here.at) here.next records.old result records.new }
 {
     if k == 2 {
-        return Reached { st, at, next: i };
+        return None;
     }
     if k == 3 {
-        return advance_vfe(chunk, i, at, d, st, records);
+        return advance_by(chunk, here, 3, d, records, vfe);
     }
     if k == 5 {
-        return advance_load(chunk, i, at, d, st, records);
+        return advance_by(chunk, here, 5, d, records, descriptor_load);
     }
-    match header_verdict(k, d, chunk.len() - i) {
-        Verdict::Fault { number, skip } => Reached { st, at, next: i },
-        Verdict::Passed => {
-            let none: [u8; 0] = [];
-            let h = own_dwords(chunk, &none, i, k, d);
-            let t = total(k, d);
-            match single_verdict(k, h, same_state(st)) {
-                Verdict::Fault { number, skip } => Reached { st, at, next: i },
-                Verdict::Passed => {
-                    write_record(records, k, h, at, t, st);
-                    Reached {
-                        st: after(k, h, st),
-                        at: at + t,
-                        next: i + t as usize,
-                    }
-                }
-            }
-        }
-    }
+    advance_by(
+        chunk,
+        here,
+        k,
+        d,
+        records,
+        |h: [u32; 8], s: State|
+            ensures { result ≡ own_verdict k h s }
+        { single_verdict(k, h, same_state(s)) },
+    )
 }
 
-// The same for a VFE, in code of its own.
-fn advance_vfe(chunk: &[u32], i: usize, at: u32, d: u32, st: State, records: &mut [u32]) -> Reached
-    requires { Ready chunk.now i (between st at) × (i < length chunk.now) × (d ≡ get_or chunk.now i 0) × (3 ≡ kind_of st.chip d) }
-    ensures { Kept chunk.now (between st at) i records.old (between result.st result.at) result.next
-        records.new }
+// The whole commands from there on that pass: those most met get code of their own.
+fn advance(chunk: &[u32], here: Reached, records: &mut [u32]) -> Option<Reached>
+    requires { Ready chunk.now here.next (between here.st here.at) }
+    ensures { LedOn chunk.now (between here.st here.at) here.next records.old result records.new }
 {
-    match header_verdict(3, d, chunk.len() - i) {
-        Verdict::Fault { number, skip } => Reached { st, at, next: i },
-        Verdict::Passed => {
-            let none: [u8; 0] = [];
-            let h = own_dwords(chunk, &none, i, 3, d);
-            let t = total(3, d);
-            match vfe(h, st) {
-                Verdict::Fault { number, skip } => Reached { st, at, next: i },
-                Verdict::Passed => {
-                    write_record(records, 3, h, at, t, st);
-                    Reached {
-                        st: after(3, h, st),
-                        at: at + t,
-                        next: i + t as usize,
-                    }
-                }
-            }
-        }
-    }
-}
-
-// The same for a descriptor load, in code of its own.
-fn advance_load(chunk: &[u32], i: usize, at: u32, d: u32, st: State, records: &mut [u32]) -> Reached
-    requires { Ready chunk.now i (between st at) × (i < length chunk.now) × (d ≡ get_or chunk.now i 0) × (5 ≡ kind_of st.chip d) }
-    ensures { Kept chunk.now (between st at) i records.old (between result.st result.at) result.next
-        records.new }
-{
-    match header_verdict(5, d, chunk.len() - i) {
-        Verdict::Fault { number, skip } => Reached { st, at, next: i },
-        Verdict::Passed => {
-            let none: [u8; 0] = [];
-            let h = own_dwords(chunk, &none, i, 5, d);
-            let t = total(5, d);
-            match descriptor_load(h, st) {
-                Verdict::Fault { number, skip } => Reached { st, at, next: i },
-                Verdict::Passed => {
-                    write_record(records, 5, h, at, t, st);
-                    Reached {
-                        st: after(5, h, st),
-                        at: at + t,
-                        next: i + t as usize,
-                    }
-                }
-            }
-        }
-    }
-}
-
-// The whole commands from i on that pass: those most met get code of their own.
-fn advance(chunk: &[u32], i: usize, at: u32, st: State, records: &mut [u32]) -> Reached
-    requires { Ready chunk.now i (between st at) × (i < length chunk.now) }
-    ensures { Kept chunk.now (between st at) i records.old (between result.st result.at) result.next
-        records.new }
-{
-    let d = chunk[i];
-    let chip = st.chip;
-    let k = kind(chip, d);
+    let d = *chunk.get(here.next)?;
+    let k = kind(here.st.chip, d);
     if k == 7 {
-        match header_verdict(7, d, total(7, d) as usize) {
-            Verdict::Fault { number, skip } => Reached { st, at, next: i },
-            Verdict::Passed => objects(chunk, i, at, d, st, records),
-        }
-    } else {
-        if k == 0 {
-            return no_ops(chunk, i, at, st, records);
-        }
-        advance_other(chunk, i, at, k, d, st, records)
+        header_verdict(7, d, total(7, d) as usize).ok()?;
+        return objects(chunk, here, d, records);
     }
+    if k == 0 {
+        return no_ops(chunk, here, records);
+    }
+    advance_other(chunk, here, k, d, records)
 }
 
 // Whole commands one after the other, while they pass.
-fn along(chunk: &[u32], from: usize, place: u32, before: State, records: &mut [u32]) -> Reached
-    requires { Ready chunk.now from (between before place) }
-    ensures { Kept chunk.now (between before place) from records.old (between result.st result.at) result.next
+fn along(chunk: &[u32], from: Reached, records: &mut [u32]) -> Reached
+    requires { Ready chunk.now from.next (between from.st from.at) }
+    ensures { Kept chunk.now (between from.st from.at) from.next records.old (between result.st result.at) result.next
         records.new }
 {
-    let mut st = before;
-    let mut at = place;
-    let mut i = from;
-    while i < chunk.len() {
-        let a = advance(chunk, i, at, st, records);
-        if a.next == i {
-            return a;
-        }
-        st = a.st;
-        at = a.at;
-        i = a.next;
+    let mut here = from;
+    while let Some(next) = advance(chunk, here, records) {
+        here = next;
     }
-    Reached { st, at, next: i }
+    here
 }
 
 // By the dwords of a command that is not whole, or by whole commands and the one after them.
@@ -384,9 +318,14 @@ fn turn(c: Progress, chunk: &[u32], i: usize, records: &mut [u32]) -> Turned
     if c.got != 0 {
         return in_command(c, chunk, i, records);
     }
-    let a = along(chunk, i, c.place, c.st, records);
+    let from = Reached {
+        st: c.st,
+        at: c.place,
+        next: i,
+    };
+    let a = along(chunk, from, records);
     if a.next < chunk.len() {
-        return first(a.st, a.at, chunk, a.next, records);
+        return first(a, chunk, records);
     }
     Turned {
         progress: open(a.st, a.at),
@@ -401,13 +340,9 @@ fn run(chunk: &[u32], at: usize, from: Progress, records: &mut [u32]) -> Progres
 {
     let mut c = from;
     let mut i = at;
-    while i < chunk.len() {
-        if c.stop != 0 {
-            return c;
-        }
+    while i < chunk.len() && c.stop == 0 {
         let t = turn(c, chunk, i, records);
-        let progress = t.progress;
-        c = progress;
+        c = t.progress;
         i = t.next;
     }
     c
@@ -420,20 +355,22 @@ pub struct Reader<'a> {
     pub at: usize,
 }
 
-// At the first dword.
-fn at_start<'a>(chunk: &'a [u32]) -> Reader<'a>
-    ensures { (result.chunk ≡ chunk.entry) × (result.at ≡ 0) }
-{
-    Reader { chunk, at: 0 }
-}
+impl<'a> Reader<'a> {
+    // At the first dword.
+    fn at_start(chunk: &'a [u32]) -> Reader<'a>
+        ensures { (result.chunk ≡ chunk.entry) × (result.at ≡ 0) }
+    {
+        Reader { chunk, at: 0 }
+    }
 
-// Reads on from its place to the chunk's end.
-fn read_on<'a, 'b>(r: Reader<'a>, from: Progress, records: &'b mut [u32]) -> Progress
-    requires { Ready r.chunk.now r.at from }
-    ensures { stage result records.new
-        ≡ stage_after (stage from records.old) (drop r.entry.at r.entry.chunk.now) }
-{
-    run(r.chunk, r.at, from, records)
+    // Reads on from its place to the chunk's end.
+    fn read_on<'b>(self, from: Progress, records: &'b mut [u32]) -> Progress
+        requires { Ready self.chunk.now self.at from }
+        ensures { stage result records.new
+            ≡ stage_after (stage from records.old) (drop self.entry.at self.entry.chunk.now) }
+    {
+        run(self.chunk, self.at, from, records)
+    }
 }
 
 // The dwords of a chunk, in a reader, from where the reading has come to.
@@ -441,5 +378,5 @@ pub fn read_through(chunk: &[u32], from: Progress, records: &mut [u32]) -> Progr
     requires { Ready chunk.now 0 from }
     ensures { stage result records.new ≡ stage_after (stage from records.old) chunk.now }
 {
-    read_on(at_start(chunk), from, records)
+    Reader::at_start(chunk).read_on(from, records)
 }

@@ -1,7 +1,7 @@
 -- A command's own dwords. Assumes nothing.
 use mathlib.Core.Path.{◌≡◌, refl, sym, ap, subst, ◌∙◌}
 use mathlib.Core.Bool.{Bool, true, false, cond, ◌&&◌}
-use Prim.Native.Nat.{ℕ, ◌/◌, ◌%◌, ◌^◌, ◌≤◌, ◌<◌}
+use Prim.Native.Nat.{ℕ, ◌+◌, ◌/◌, ◌%◌, ◌^◌, ◌≤◌, ◌<◌}
 use native.Mathlib.Omega.{arith}
 use lib.ListN.{get_or, drop}
 use lib.Seq.{get_or-drop}
@@ -16,20 +16,16 @@ use Rattle.laws.specs.Rows.{Row, row, first_row}
 use Rattle.laws.proofs.Rows.{by_rows}
 use Rattle.chips.specs.declared.Chip.{Chip}
 use Rattle.chips.specs.declared.Chip.TheVariants.{Gen6, Gen7}
-use Rattle.command.specs.Kinds.{header, is_kind, no_kind, has_gateway_state, kind_rows, kind_of, is_media, length_allowed, own_dwords, own_dword, head_of, DwordsAt}
+use Rattle.command.specs.Kinds.{header, is_kind, no_kind, has_gateway_state, kind_rows, kind_of, is_media, length_allowed, own_dwords, own_dword, first_dwords, head_of, DwordsAt}
 
--- a descriptor load has as many dwords as a CURBE load
-pub five_as_four : (l : List ℕ) → head_of 4 l ≡ head_of 5 l
-unfolding head_of own_dwords
-five_as_four l = refl
+-- the own dwords of a kind, by how many they are
+pub head_by : (k m : ℕ) (l r : List ℕ) → own_dwords k ≡ m → r ≡ first_dwords m l → r ≡ head_of k l
+unfolding head_of
+head_by k m l r o e = e ∙ ap (λ (n : ℕ). first_dwords n l) (sym o)
 
--- and a gateway state as many as a state flush
-pub eight_as_six : (l : List ℕ) → head_of 6 l ≡ head_of 8 l
-unfolding head_of own_dwords
-eight_as_six l = refl
-
-pub as_kind : (k n : ℕ) (l r : List ℕ) → k ≡ n → r ≡ head_of n l → r ≡ head_of k l
-as_kind k n l r p e = e ∙ ap (λ (x : ℕ). head_of x l) (sym p)
+-- and of the list from a place on
+pub dword_from : (l : List ℕ) (at n i : ℕ) → cond (ltb i n) (get_or l (at + i) 0) 0 ≡ own_dword n (drop at l) i
+dword_from l at n i = simp get_or-drop
 
 -- the own dwords of a kind n, of which it has m, are there where those of k are
 pub own_at : (k n m : ℕ) (l : List ℕ) (at d : ℕ) → own_dwords n ≡ m → k ≡ n → DwordsAt l at (own_dwords k) d → DwordsAt l at m d
@@ -60,9 +56,9 @@ module _ (k : ℕ) (n3 : k ≡ 3 → ⊥) (n4 : k ≡ 4 → ⊥) (n5 : k ≡ 5 �
   unfolding own_dwords
   own_one = simp (ne_eqb k 7 n7, no_media)
 
-  pub head_one : (d at : ℕ) (l : List ℕ) → d ≡ get_or l at 0 → d ∷ 0 ∷ 0 ∷ 0 ∷ 0 ∷ 0 ∷ 0 ∷ 0 ∷ [] ≡ head_of k (drop at l)
+  pub head_one : (l r : List ℕ) → r ≡ first_dwords 1 l → r ≡ head_of k l
   unfolding head_of
-  head_one d at l e = simp (ne_eqb k 7 n7, own_one, get_or-drop, add-zero, ← e)
+  head_one l r e = e ∙ ap (λ (n : ℕ). first_dwords n l) (sym own_one)
 
 -- The deciding law: two lists that agree on the own dwords of a command give one head.
 module _ (k : ℕ) (l l' : List ℕ) (same : (i : ℕ) → i < own_dwords k → get_or l i 0 ≡ get_or l' i 0) where
@@ -70,7 +66,7 @@ module _ (k : ℕ) (l l' : List ℕ) (same : (i : ℕ) → i < own_dwords k → 
   own_same i true e = same i (ltb-true i (own_dwords k) e)
   own_same i false e = refl
 
-  own_is : (i : ℕ) → own_dword k l i ≡ own_dword k l' i
+  own_is : (i : ℕ) → own_dword (own_dwords k) l i ≡ own_dword (own_dwords k) l' i
   own_is i = own_same i (ltb i (own_dwords k)) refl
 
   pub head_same : head_of k l ≡ head_of k l'

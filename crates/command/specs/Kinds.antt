@@ -91,22 +91,26 @@ inline_from = 6
 unfoldable pub own_dwords : ℕ → ℕ
 own_dwords k = cond (eqb k 7) inline_from (cond (is_media k) (length_of k + 2) 1)
 
--- dword i of a command of kind k that the list starts with, and 0 where that is not one of its own
+-- dword i of a command with n dwords of its own that the list starts with, and 0 where that is not one of them
 abbrev pub own_dword : ℕ → List ℕ → ℕ → ℕ
-own_dword k l i = cond (ltb i (own_dwords k)) (get_or l i 0) 0
+own_dword n l i = cond (ltb i n) (get_or l i 0) 0
 
--- a command's own dwords, filled up to eight with zeros: all that any rule reads of it
-unfoldable pub head_of : ℕ → List ℕ → List ℕ
-head_of k l =
+-- the n own dwords of a command that the list starts with, filled up to eight with zeros
+abbrev pub first_dwords : ℕ → List ℕ → List ℕ
+first_dwords n l =
     get_or l 0 0
-    ∷ own_dword k l 1
-    ∷ own_dword k l 2
-    ∷ own_dword k l 3
-    ∷ own_dword k l 4
-    ∷ own_dword k l 5
-    ∷ own_dword k l 6
-    ∷ own_dword k l 7
+    ∷ own_dword n l 1
+    ∷ own_dword n l 2
+    ∷ own_dword n l 3
+    ∷ own_dword n l 4
+    ∷ own_dword n l 5
+    ∷ own_dword n l 6
+    ∷ own_dword n l 7
     ∷ []
+
+-- a command's own dwords, by its kind: all that any rule reads of it
+unfoldable pub head_of : ℕ → List ℕ → List ℕ
+head_of k l = first_dwords (own_dwords k) l
 
 -- what reading them asks for: n dwords from a place on, of which the first is d
 abbrev pub DwordsAt : List ℕ → ℕ → ℕ → ℕ → Type 0

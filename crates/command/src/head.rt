@@ -1,29 +1,26 @@
 // A command's first dword, and the dwords of its own.
-ghost use Rattle.std.specs.Prelude.{◌≡◌, ◌<◌, ◌≤◌, drop, cond};
-ghost use Rattle.words.specs.Dwords.{lent};
-ghost use Rattle.command.specs.Kinds.{no_kind, has_gateway_state, kind_of, total_of, own_dwords, head_of, DwordsAt};
+ghost use Rattle.std.specs.Prelude.{ℕ, ◌≡◌, ◌+◌, ◌^◌, ◌<◌, ◌≤◌, length, get_or, drop, cond, ltb};
+ghost use Rattle.command.specs.Kinds.{no_kind, has_gateway_state, kind_of, total_of, own_dwords, head_of, first_dwords, DwordsAt};
 
 use chips::Chip;
-use words::word;
+use words::Element;
 
 // The kind of a dword below those of media commands.
+#[inline(always)]
 fn plain_kind(chip: Chip, d: u32) -> u32
     requires { d < 0x7000_0000 }
     ensures { result ≡ kind_of chip d }
 {
-    if d == 0 {
-        return 0;
+    match d {
+        0 => 0,
+        0x0200_0000 => 1,
+        0x0500_0000 => 2,
+        _ => 255,
     }
-    if d == 0x0200_0000 {
-        return 1;
-    }
-    if d == 0x0500_0000 {
-        return 2;
-    }
-    255
 }
 
 // MEDIA_GATEWAY_STATE, which Gen6 alone has.
+#[inline(always)]
 fn gateway_kind(chip: Chip) -> u32
     ensures { result ≡ cond (has_gateway_state chip) 8 no_kind }
 {
@@ -33,7 +30,9 @@ fn gateway_kind(chip: Chip) -> u32
     }
 }
 
-// The kind of a command with the first dword d, in a chip's table.
+// The kind of a command with the first dword d, in a chip's table. A kind is a number: `total`, `own_dwords`, `judge::own_verdict`,
+// `record::words` and `states::after` promise an answer for each, and an enum would be a narrower argument.
+#[inline(always)]
 pub fn kind(chip: Chip, d: u32) -> u32
     ensures { result ≡ kind_of chip d }
 {
@@ -64,6 +63,7 @@ pub fn kind(chip: Chip, d: u32) -> u32
     255
 }
 
+#[inline(always)]
 pub fn total(k: u32, d: u32) -> u32
     ensures { result ≡ total_of k d }
 {
@@ -73,66 +73,38 @@ pub fn total(k: u32, d: u32) -> u32
     (d & 0xffff) + 2
 }
 
-// An OBJECT: six dwords, no inline data.
-fn object_dwords(dw: &[u32], by: &[u8], at: usize, d: u32) -> [u32; 8]
-    requires { DwordsAt (lent dw.now by.now) at 6 d }
-    ensures { result ≡ head_of 7 (drop at (lent dw.now by.now)) }
+// Dword i of a command at a place, where it is one of the n that the command has of its own, else 0.
+#[inline(always)]
+fn own_dword<T: Element>(source: &[T], at: usize, n: usize, i: usize) -> u32
+    requires { (at + n ≤ length (T.dwords source.now)) × (at < 2 ^ 32) × (n ≤ 8) }
+    ensures { result ≡ cond (ltb i n) (get_or (T.dwords source.now) (at + i) 0) 0 }
+{
+    if i < n {
+        return T::word(source, at + i);
+    }
+    0
+}
+
+// The N dwords of its own that a command at a place has, whose first dword is d, then zeros.
+#[inline(always)]
+fn first_dwords<T: Element, const N: usize>(source: &[T], at: usize, d: u32) -> [u32; 8]
+    requires { DwordsAt (T.dwords source.now) at N d × (N ≤ 8) }
+    ensures { result ≡ first_dwords N (drop at (T.dwords source.now)) }
 {
     [
         d,
-        word(dw, by, at + 1),
-        word(dw, by, at + 2),
-        word(dw, by, at + 3),
-        word(dw, by, at + 4), // position
-        word(dw, by, at + 5), // colour and mask
-        0,
-        0,
+        own_dword(source, at, N, 1),
+        own_dword(source, at, N, 2),
+        own_dword(source, at, N, 3),
+        own_dword(source, at, N, 4), // position
+        own_dword(source, at, N, 5), // colour and mask
+        own_dword(source, at, N, 6),
+        own_dword(source, at, N, 7),
     ]
-}
-
-// A VFE: eight.
-fn vfe_dwords(dw: &[u32], by: &[u8], at: usize, d: u32) -> [u32; 8]
-    requires { DwordsAt (lent dw.now by.now) at 8 d }
-    ensures { result ≡ head_of 3 (drop at (lent dw.now by.now)) }
-{
-    [
-        d,
-        word(dw, by, at + 1),
-        word(dw, by, at + 2),
-        word(dw, by, at + 3),
-        word(dw, by, at + 4),
-        word(dw, by, at + 5),
-        word(dw, by, at + 6),
-        word(dw, by, at + 7),
-    ]
-}
-
-// A load: four.
-fn load_dwords(dw: &[u32], by: &[u8], at: usize, d: u32) -> [u32; 8]
-    requires { DwordsAt (lent dw.now by.now) at 4 d }
-    ensures { result ≡ head_of 4 (drop at (lent dw.now by.now)) }
-{
-    [
-        d,
-        word(dw, by, at + 1),
-        word(dw, by, at + 2),
-        word(dw, by, at + 3),
-        0,
-        0,
-        0,
-        0,
-    ]
-}
-
-// A state flush or gateway state: two.
-fn short_dwords(dw: &[u32], by: &[u8], at: usize, d: u32) -> [u32; 8]
-    requires { DwordsAt (lent dw.now by.now) at 2 d }
-    ensures { result ≡ head_of 6 (drop at (lent dw.now by.now)) }
-{
-    [d, word(dw, by, at + 1), 0, 0, 0, 0, 0, 0]
 }
 
 // How many dwords a command of kind k has of its own: eight at most.
+#[inline(always)]
 pub fn own_count(k: u32) -> usize
     ensures { (result ≡ own_dwords k) × (result ≤ 8) }
 {
@@ -148,17 +120,18 @@ pub fn own_count(k: u32) -> usize
 }
 
 // The own dwords of the command of kind k at a place, whose first dword is d.
-pub fn own_dwords(dw: &[u32], by: &[u8], at: usize, k: u32, d: u32) -> [u32; 8]
-    requires { DwordsAt (lent dw.now by.now) at (own_dwords k) d }
-    ensures { result ≡ head_of k (drop at (lent dw.now by.now)) }
+#[inline(always)]
+pub fn own_dwords<T: Element>(source: &[T], at: usize, k: u32, d: u32) -> [u32; 8]
+    requires { DwordsAt (T.dwords source.now) at (own_dwords k) d }
+    ensures { result ≡ head_of k (drop at (T.dwords source.now)) }
 {
     match k {
-        7 => object_dwords(dw, by, at, d),
-        3 => vfe_dwords(dw, by, at, d),
-        4 => load_dwords(dw, by, at, d),
-        5 => load_dwords(dw, by, at, d),
-        6 => short_dwords(dw, by, at, d),
-        8 => short_dwords(dw, by, at, d),
-        _ => [d, 0, 0, 0, 0, 0, 0, 0],
+        7 => first_dwords::<T, 6>(source, at, d),
+        3 => first_dwords::<T, 8>(source, at, d),
+        4 => first_dwords::<T, 4>(source, at, d),
+        5 => first_dwords::<T, 4>(source, at, d),
+        6 => first_dwords::<T, 2>(source, at, d),
+        8 => first_dwords::<T, 2>(source, at, d),
+        _ => first_dwords::<T, 1>(source, at, d),
     }
 }

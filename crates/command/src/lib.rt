@@ -6,8 +6,9 @@ pub mod states;
 
 use chips::Chip;
 
-// What the batch is judged for, the chip and the capacity in rows, and what the commands before a command have set. The flag is 1 or 0:
-// bools, whose bytes are stored one by one and loaded as one word, held up the loop.
+// What the batch is judged for, the chip and the capacity in rows, and what the commands before a command have set. The flag and what
+// stands are numbers: `feed::feed` goes on from any that C carried, and bools, whose bytes are stored one by one and loaded as one word,
+// held up the loop.
 #[derive(Clone, Copy)]
 pub struct State {
     pub chip: Chip,

@@ -6,12 +6,12 @@ use crate::State;
 use chips::Target;
 
 // Before the first command.
+#[inline(always)]
 pub fn start(target: Target) -> State
     ensures { result ≡ state_of target [] }
 {
-    let chip = target.chip;
     State {
-        chip,
+        chip: target.chip,
         capacity: target.capacity,
         earlier_vfe: 0,
         vfe_in_force: 0,
@@ -27,54 +27,53 @@ pub fn start(target: Target) -> State
 }
 
 // What stands after one more command of kind 3, 4, 5 or 8.
+#[inline(always)]
 fn with_media(standing: u32) -> u32
     ensures { result ≡ with_media standing }
 {
-    if standing < 2 {
-        return 2;
-    }
-    standing
+    standing.max(2)
 }
 
 // What stands after a MEDIA_STATE_FLUSH: what did since the last MI_FLUSH, and nothing since the last of either.
+#[inline(always)]
 fn state_flushed(standing: u32) -> u32
     ensures { result ≡ state_flushed standing }
 {
-    if 1 <= standing {
-        return 1;
-    }
-    standing
+    standing.min(1)
 }
 
-// After a VFE, which is in force from here on, and stands itself.
+// After a VFE, which is in force from here on, and stands itself. Field by field, as below.
+#[inline(always)]
 fn after_vfe(h: [u32; 8], st: State) -> State
     requires { st.commands + 1 < 2 ^ 32 }
     ensures { result ≡ state_after 3 h st }
 {
+    let standing = with_media(st.standing);
     let mut next = st;
-    next.commands = st.commands + 1;
+    next.commands += 1;
     next.earlier_vfe = 1;
     next.vfe_in_force = st.commands;
     next.vfe_dword1 = h[1];
     next.vfe_dword2 = h[2];
     next.vfe_dword3 = h[3];
     next.vfe_dword4 = h[4];
-    let standing = with_media(st.standing);
     next.standing = standing;
     next
 }
 
-// After a command of kind k with own dwords h.
+// After a command of kind k with own dwords h. Field by field: tried as `State { .., ..st }`, it copies the bytes between `chip` and the
+// next field at each command too, and no-ops in chunks took half as long again.
+#[inline(always)]
 pub fn after(k: u32, h: [u32; 8], st: State) -> State
     requires { (st.commands + 1 < 2 ^ 32) × (st.objects + 1 < 2 ^ 32) }
     ensures { result ≡ state_after k h st }
 {
     let mut next = st;
-    next.commands = st.commands + 1;
+    next.commands += 1;
     match k {
         7 => {
             next.standing = 3;
-            next.objects = st.objects + 1;
+            next.objects += 1;
             next
         }
         1 => {

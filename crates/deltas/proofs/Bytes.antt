@@ -1,6 +1,8 @@
 -- A delta that leads from a position to another is one byte alone, the differences modulo 16. So a search by that byte finds the delta, and
 -- sums decide whether it leads there. Assumes nothing.
 use Rattle.std.proofs.Common.{◌≡◌, ℕ, suc, ◌+◌, ◌-◌, ◌*◌, ◌/◌, ◌%◌, ◌^◌, ◌<◌, ◌≤◌, Bool, true, false, cond, ◌&&◌, eqb, ltb, ℤ, pos, negsuc, sym, refl, ap, ◌∙◌, subst, ap₂, le_refl, arith, shr-shr, to_z-of_z, w32, to_z, of_z, ltb-false, ltb-true, lt-ltb, eq-eqb, ne_eqb, eqb-true}
+use Rattle.std.proofs.lemmas.Bool.{false_from_ne_true}
+use Rattle.std.proofs.lemmas.Nat.Bits.{shr_and_one}
 use native.Mathlib.Nat.{zero-div}
 use lib.Bits.{bit_and}
 use lib.IntN.{sub_ℕ}
@@ -13,11 +15,8 @@ use Rattle.deltas.specs.Deltas.{delta_of, delta_dword, byte_low, delta_x, delta_
 use Rattle.deltas.specs.InPlay.{bit_set}
 use Rattle.deltas.specs.Meets.{reaches, meets_at}
 use Rattle.deltas.specs.Lowest.{leads_at, lowest_at, delta_byte, half_to, is_byte, lowest_byte}
+use Rattle.deltas.proofs.Masks.{set_at}
 use Rattle.deltas.proofs.Nibbles.{half_small, x_fits, y_fits}
-
-pub unless : (t : Bool) → (t ≡ true → ⊥) → t ≡ false
-unless true n = absurd (n refl)
-unless false n = refl
 
 -- one axis: a delta with the half byte n leads so far on from 8 before
 module _ (x to : ℕ) where
@@ -103,7 +102,7 @@ module _ (x y mask d6 d7 jx jy : ℕ) (hx : x < 2 ^ 32) (hy : y < 2 ^ 32) where
       simp (and_left (bit_set i mask) _ e, eq-eqb (delta_byte d6 d7 i) byte (byte_halves d6 d7 i ∙ ap₂ (λ (a b : ℕ). 16 * a + b) high low))
 
   leads_not : (i : ℕ) → is_byte mask d6 d7 byte i ≡ false → leads_at x y mask d6 d7 jx jy i ≡ false
-  leads_not i e = unless (leads_at x y mask d6 d7 jx jy i) (λ p. not_both (is_byte mask d6 d7 byte i) (leads_byte i p) e)
+  leads_not i e = false_from_ne_true (leads_at x y mask d6 d7 jx jy i) (λ p. not_both (is_byte mask d6 d7 byte i) (leads_byte i p) e)
 
   -- what `lowest_delta` shows: i is the lowest delta that is the byte, made of the halves u and v
   module _ (i u v : ℕ) (eu : u ≡ half_to x jx) (ev : v ≡ half_to y jy) (ei : i ≡ lowest_byte mask d6 d7 (16 * v + u)) where
@@ -148,11 +147,12 @@ module _ (x y mask d6 d7 jx jy : ℕ) (hx : x < 2 ^ 32) (hy : y < 2 ^ 32) where
 
       pub lowest_off : b ≡ false → 8 ≡ lowest_at x y mask d6 d7 jx jy
       unfolding lowest_at
-      lowest_off e = sym (none (leads_at x y mask d6 d7 jx jy) 8 8 (le_refl 8) (λ j h. unless (leads_at x y mask d6 d7 jx jy j) (λ p. not_both b (off j p) e)))
+      lowest_off e = sym (none (leads_at x y mask d6 d7 jx jy) 8 8 (le_refl 8) (λ j h. false_from_ne_true (leads_at x y mask d6 d7 jx jy j) (λ p. not_both b (off j p) e)))
 
 -- one bit, by shift and mask
 pub bit : (i m : ℕ) → field (bits i i) m ≡ bit_and (m / 2 ^ i) 1
-bit i m = let e : i - i + 1 ≡ 1 = omega arith in taken i i m ∙ ap (λ (w : ℕ). bit_and (m / 2 ^ i) (2 ^ w - 1)) e
+unfolding field
+bit i m = let e : i - i + 1 ≡ 1 = omega arith in ap (λ (w : ℕ). m / 2 ^ i % 2 ^ w) e ∙ sym (shr_and_one m i)
 
 -- the byte of a delta, by shift and mask
 pub taken_byte : (d6 d7 i w : ℕ) → w ≡ delta_dword d6 d7 i → bit_and (w / 2 ^ (8 * (i % 4))) 255 ≡ delta_byte d6 d7 i
@@ -164,12 +164,10 @@ taken_byte d6 d7 i w e =
 
 -- no bit is set above those that a shift leaves none of
 pub bits_above : (mask i : ℕ) → mask / 2 ^ i ≡ 0 → (j : ℕ) → i ≤ j → bit_set j mask ≡ false
-unfolding field
 bits_above mask i e j h =
     let k : i + (j - i) ≡ j = omega arith in
     let z : mask / 2 ^ j ≡ 0 = ap (λ (n : ℕ). mask / 2 ^ n) (sym k) ∙ sym (shr-shr mask i (j - i)) ∙ ap (λ (n : ℕ). n / 2 ^ (j - i)) e ∙ zero-div (2 ^ (j - i)) in
-    let w : j - j + 1 ≡ 1 = omega arith in
-    simp (z, w)
+    set_at j mask ∙ ap (λ (n : ℕ). eqb (n % 2) 1) z
 
 module _ (mask d6 d7 byte i : ℕ) where
   -- what `is_byte` shows

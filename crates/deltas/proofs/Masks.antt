@@ -1,7 +1,10 @@
 -- The set bits of the code's joined mask are the deltas in play, and the machine's counts are theirs. Assumes nothing.
-use Rattle.std.proofs.Common.{◌≡◌, ℕ, zero, suc, ◌+◌, ◌-◌, ◌/◌, ◌%◌, ◌^◌, ◌<◌, Bool, true, false, cond, ◌&&◌, T, eqb, ◌⊎◌, List, [], ◌∷◌, length, sym, refl, ap, ◌∙◌, ap₂, inl, inr, le_of_suc-le-suc, not-suc-le-zero, lt_of_le_of_lt, mod-lt, eq-or-lt_of_le, arith, lit<, eqb→eq}
+use Rattle.std.proofs.Common.{◌≡◌, ℕ, zero, suc, ◌+◌, ◌-◌, ◌/◌, ◌%◌, ◌^◌, ◌<◌, min, Bool, true, false, cond, ◌&&◌, T, eqb, ◌⊎◌, List, [], ◌∷◌, length, sym, refl, ap, ◌∙◌, ap₂, inl, inr, le_of_suc-le-suc, not-suc-le-zero, lt_of_le_of_lt, mod-lt, eq-or-lt_of_le, arith, lit<, eqb→eq}
+use Rattle.std.specs.Int.{bit_at}
+use Rattle.std.proofs.lemmas.Nat.Bits.{bit_at_and, bit_at-lt}
+use Rattle.std.proofs.lemmas.Bool.Decides.{nat_tests}
 use mathlib.Core.Path.{subst⁻¹}
-use lib.Bits.{bit_and, and_shr, and_mod, and_le_r}
+use lib.Bits.{bit_and, and_le_r}
 use lib.Count.{ones, ones_in, count_trailing_zeros}
 use Rattle.laws.specs.BitRanges.{bits, field}
 use Rattle.deltas.specs.InPlay.{bit_set, uses_scoreboard, those, eight, set_in_both, in_play_of, first_or, counted, joined_mask}
@@ -12,22 +15,19 @@ use Rattle.laws.proofs.Tests.{both_left, both_right}
 abbrev pub set_bits : ℕ → List ℕ
 set_bits m = those (λ i. bit_set i m) eight
 
--- one bit
-one_bit : (a b : ℕ) → a < 2 → b < 2 → eqb a 1 && eqb b 1 ≡ eqb (bit_and a b) 1
-one_bit zero zero p q = refl
-one_bit zero (suc zero) p q = refl
-one_bit zero (suc (suc b)) p q = absurd (omega arith)
-one_bit (suc zero) zero p q = refl
-one_bit (suc zero) (suc zero) p q = refl
-one_bit (suc zero) (suc (suc b)) p q = absurd (omega arith)
-one_bit (suc (suc a)) b p q = absurd (omega arith)
+-- bit i, as std has it
+pub set_at : (i n : ℕ) → bit_set i n ≡ eqb (bit_at n i) 1
+unfolding field
+set_at i n = let e : i - i + 1 ≡ 1 = omega arith in ap (λ (w : ℕ). eqb (n / 2 ^ i % 2 ^ w) 1) e
+
+both : (a b : ℕ) → a < 2 → b < 2 → eqb a 1 && eqb b 1 ≡ eqb (min a b) 1
+both a b p q = grind (arith, nat_tests)
 
 -- bit i of the joined mask is set where it is set in both
 both_set : (m n i : ℕ) → bit_set i m && bit_set i n ≡ bit_set i (bit_and m n)
-unfolding field
 both_set m n i =
-    let e : i - i + 1 ≡ 1 = omega arith in
-    rw (e, and_shr, and_mod) (one_bit (m / 2 ^ i % 2 ^ 1) (n / 2 ^ i % 2 ^ 1) (mod-lt (m / 2 ^ i) (lit< tt)) (mod-lt (n / 2 ^ i) (lit< tt)))
+    ap₂ ◌&&◌ (set_at i m) (set_at i n) ∙ both (bit_at m i) (bit_at n i) (bit_at-lt m i) (bit_at-lt n i) ∙ ap (λ (k : ℕ). eqb k 1) (sym (bit_at_and m n i))
+    ∙ sym (set_at i (bit_and m n))
 
 those_same : (f g : ℕ → Bool) → ((i : ℕ) → f i ≡ g i) → (is : List ℕ) → those f is ≡ those g is
 those_same f g e [] = refl

@@ -1,8 +1,12 @@
 -- The quick test: what the code shows of it, and that no delta leads to what fails it. Assumes nothing.
-use Rattle.std.proofs.Common.{◌≡◌, ℕ, zero, suc, ◌+◌, ◌-◌, ◌*◌, ◌/◌, ◌%◌, ◌^◌, ◌<◌, ◌≤◌, Bool, true, false, cond, not, ◌&&◌, ◌||◌, T, eqb, ◌⊎◌, List, length, get_or, set, replicate, sym, refl, ap, ◌∙◌, subst, ap₂, inl, inr, le_refl, le_of_suc-le-suc, mod-lt, mod-eq_of_lt, eq-or-lt_of_le, add-one, arith, lit<, eqb→eq, length-set, get_or-set_other, get_or-set_same, shl_exact, eq-eqb, ne_eqb, eqb-true}
-use lib.Bits.{bit_and, bit_or, bit_xor, and_mask, or_shr, or_mod}
+use Rattle.std.proofs.Common.{◌≡◌, ℕ, zero, suc, ◌+◌, ◌*◌, ◌/◌, ◌%◌, ◌^◌, ◌<◌, ◌≤◌, Bool, true, false, cond, not, ◌&&◌, T, eqb, ◌⊎◌, List, length, get_or, set, replicate, sym, ap, ◌∙◌, subst, ap₂, inl, inr, le_refl, le_of_suc-le-suc, mod-eq_of_lt, eq-or-lt_of_le, add-one, arith, eqb→eq, length-set, get_or-set_other, get_or-set_same, shl_exact, eq-eqb, ne_eqb, eqb-true}
+use lib.Bits.{bit_and, bit_or, bit_xor, and_mask}
 use lib.ListN.{length-replicate}
-use lib.Pow.{shl-shr, high, low}
+use Rattle.std.specs.Int.{bit_at}
+use Rattle.std.proofs.lemmas.Nat.Bits.{bit_at_or, bit_at-lt, bit_at-pow_same}
+use Rattle.std.proofs.Math.Bool.{not-not}
+use lib.Pow.{high, low}
+use Rattle.std.proofs.lemmas.Bool.{false_from_ne_true}
 use borrow.Author.Tests.{eqb-false, not-true, not-false}
 use Rattle.laws.specs.BitRanges.{bits, field, any_set, mask_of}
 use Rattle.laws.proofs.BitRanges.{marked}
@@ -14,8 +18,8 @@ use Rattle.deltas.specs.InPlay.{bit_set}
 use Rattle.deltas.specs.Meets.{reaches, meets_at}
 use Rattle.deltas.specs.Lowest.{leads_at, lowest_at, delta_byte}
 use Rattle.deltas.specs.Reach.{place_of, less, furthest_back, corner_of, column_of, row_of, with_delta, rows_to, rows_of, beyond, near_to, reached_from}
-use Rattle.deltas.proofs.Masks.{all, below}
-use Rattle.deltas.proofs.Bytes.{unless, bit, bits_above, led, low_half, high_half, low_small, high_small, byte_halves}
+use Rattle.deltas.proofs.Masks.{set_at, all, below}
+use Rattle.deltas.proofs.Bytes.{bit, bits_above, led, low_half, high_half, low_small, high_small, byte_halves}
 
 -- a difference that wraps
 less_is : (r a b : ℕ) → r < 2 ^ 64 → b < 2 ^ 64 → (r + b) % 2 ^ 64 ≡ a → r ≡ less a b
@@ -25,10 +29,6 @@ less_is r a b hr hb e = omega arith
 pub corner_is : (x y p r : ℕ) → r < 2 ^ 64 → p ≡ place_of x y → (r + furthest_back) % 2 ^ 64 ≡ p → r ≡ corner_of x y
 unfolding corner_of
 corner_is x y p r h e q = less_is r (place_of x y) furthest_back h (omega arith) (q ∙ e)
-
-twice : (t : Bool) → not (not t) ≡ t
-twice true = refl
-twice false = refl
 
 -- LAW: what is not near is not reached
 pub far_unreached : (corner place : ℕ) (rows : List ℕ) → near_to corner place ≡ false → reached_from corner rows place ≡ false
@@ -42,7 +42,7 @@ module _ (corner place off : ℕ) (ho : off < 2 ^ 64) (hc : corner < 2 ^ 64) (eo
   is_off = sym (less_is off place corner ho hc eo)
 
   pub near_is : eqb (bit_and off (mask_of beyond)) 0 ≡ near_to corner place
-  near_is = sym (ap not (ap (any_set beyond) is_off ∙ marked beyond off tt) ∙ twice (eqb (bit_and off (mask_of beyond)) 0))
+  near_is = sym (ap not (ap (any_set beyond) is_off ∙ marked beyond off tt) ∙ not-not (eqb (bit_and off (mask_of beyond)) 0))
 
   pub reached_on : (rows : List ℕ) (t : Bool) → t ≡ near_to corner place → not t ≡ false
       → eqb (bit_and (get_or rows (bit_and (off / 4294967296) 15) 0 / 2 ^ bit_and off 15) 1) 1 ≡ reached_from corner rows place
@@ -121,39 +121,19 @@ module _ (mask d6 d7 : ℕ) where
 
 pub ruleset rows_laws = (rows_first, rows_next, rows_rest, rows_all)
 
--- one bit of two numbers
-one_or : (a b : ℕ) → a < 2 → b < 2 → eqb a 1 || eqb b 1 ≡ eqb (bit_or a b) 1
-one_or zero zero p q = refl
-one_or zero (suc zero) p q = refl
-one_or zero (suc (suc b)) p q = absurd (omega arith)
-one_or (suc zero) zero p q = refl
-one_or (suc zero) (suc zero) p q = refl
-one_or (suc zero) (suc (suc b)) p q = absurd (omega arith)
-one_or (suc (suc a)) b p q = absurd (omega arith)
-
-or_set : (m n i : ℕ) → bit_set i m || bit_set i n ≡ bit_set i (bit_or m n)
-unfolding field
-or_set m n i =
-    let e : i - i + 1 ≡ 1 = omega arith in
-    rw (e, or_shr, or_mod) (one_or (m / 2 ^ i % 2 ^ 1) (n / 2 ^ i % 2 ^ 1) (mod-lt (m / 2 ^ i) (lit< tt)) (mod-lt (n / 2 ^ i) (lit< tt)))
-
+-- what is set in one of two numbers is set in both together
 or_left : (m n i : ℕ) → bit_set i m ≡ true → bit_set i (bit_or m n) ≡ true
-or_left m n i e = sym (or_set m n i) ∙ ap (λ (t : Bool). t || bit_set i n) e
+or_left m n i e =
+    let h : bit_at m i ≡ 1 = eqb-true (bit_at m i) 1 (sym (set_at i m) ∙ e) in
+    set_at i (bit_or m n) ∙ eq-eqb (bit_at (bit_or m n) i) 1 (omega (arith, bit_at_or m n i, bit_at-lt n i))
 
 or_right : (m n i : ℕ) → bit_set i n ≡ true → bit_set i (bit_or m n) ≡ true
-or_right m n i e = sym (or_set m n i) ∙ go (bit_set i m) (bit_set i n) e
-  where
-    go : (a b : Bool) → b ≡ true → a || b ≡ true
-    go true b q = refl
-    go false b q = q
+or_right m n i e =
+    let h : bit_at n i ≡ 1 = eqb-true (bit_at n i) 1 (sym (set_at i n) ∙ e) in
+    set_at i (bit_or m n) ∙ eq-eqb (bit_at (bit_or m n) i) 1 (omega (arith, bit_at_or m n i, bit_at-lt m i))
 
 own_set : (i : ℕ) → bit_set i (2 ^ i) ≡ true
-unfolding field
-own_set i =
-    let e : i - i + 1 ≡ 1 = omega arith in
-    let o : 1 * 2 ^ i ≡ 2 ^ i = omega arith in
-    let q : 2 ^ i / 2 ^ i ≡ 1 = ap (λ (m : ℕ). m / 2 ^ i) (sym o) ∙ shl-shr 1 i in
-    simp (e, q)
+own_set i = set_at i (2 ^ i) ∙ eq-eqb (bit_at (2 ^ i) i) 1 (bit_at-pow_same i)
 
 -- a bit that is set stays set
 module _ (mask d6 d7 i : ℕ) (rows : List ℕ) (l : length rows ≡ 16) where
@@ -265,4 +245,4 @@ module _ (x y mask d6 d7 jx jy : ℕ) where
   unfolding lowest_at
   unreached e =
       none (leads_at x y mask d6 d7 jx jy) 8 8 (le_refl 8)
-      (λ i h. unless (leads_at x y mask d6 d7 jx jy i) (λ p. not_both (reached_from (corner_of x y) (rows_of mask d6 d7) (place_of jx jy)) (lead_reached i h p) e))
+      (λ i h. false_from_ne_true (leads_at x y mask d6 d7 jx jy i) (λ p. not_both (reached_from (corner_of x y) (rows_of mask d6 d7) (place_of jx jy)) (lead_reached i h p) e))

@@ -1,5 +1,5 @@
 // What dword 5 of an object's VFE says of it: its use of a scoreboard, the type, and the deltas in play.
-ghost use Rattle.std.specs.Prelude.{◌≡◌};
+ghost use Rattle.std.specs.Prelude.{◌≡◌, ◌==◌};
 ghost use Rattle.deltas.specs.InPlay.{uses_scoreboard, type_of, joined_mask, in_play, counted};
 
 use crate::InPlay;
@@ -9,18 +9,15 @@ use crate::InPlay;
 pub fn uses_scoreboard(own: u32, vfe_dword_5: u32) -> bool
     ensures { result ≡ uses_scoreboard own vfe_dword_5 }
 {
-    if own != 1 {
-        return false;
-    }
-    (vfe_dword_5 >> 31) & 1 == 1
+    own == 1 && (vfe_dword_5 >> 31) & 1 == 1
 }
 
-// 0 stalling, 1 not.
+// Is the scoreboard's type 0, stalling?
 #[tactic(auto, using(laws::proofs::BitRanges::taken), unfolding(crate::specs::InPlay::type_of))]
-pub fn scoreboard_type(vfe_dword_5: u32) -> u32
-    ensures { result ≡ type_of vfe_dword_5 }
+pub fn is_stalling(vfe_dword_5: u32) -> bool
+    ensures { result ≡ (type_of vfe_dword_5 == 0) }
 {
-    (vfe_dword_5 >> 30) & 1
+    (vfe_dword_5 >> 30) & 1 == 0
 }
 
 // The deltas in play as a mask of eight, by the object's own bit and its mask.
@@ -28,10 +25,11 @@ pub fn scoreboard_type(vfe_dword_5: u32) -> u32
 pub fn joined_mask(own: u32, mask: u32, vfe_dword_5: u32) -> u32
     ensures { result ≡ joined_mask own mask vfe_dword_5 }
 {
-    if !uses_scoreboard(own, vfe_dword_5) {
-        return 0;
+    if uses_scoreboard(own, vfe_dword_5) {
+        mask & (vfe_dword_5 & 0xff)
+    } else {
+        0
     }
-    mask & (vfe_dword_5 & 0xff)
 }
 
 // How many deltas are in play and which is the lowest, for any dwords.

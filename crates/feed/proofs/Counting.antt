@@ -7,7 +7,7 @@ use mathlib.Core.List.{List, [], ◌∷◌}
 use lib.ListN.{length, take}
 use lib.Seq.{take_all}
 use lib.Dec.{ltb, leb}
-use borrow.Author.Tests.{lt-ltb, le-ltb, ltb-true, ltb-false, le-leb, lt-leb, leb-true, leb-false}
+use borrow.Author.Tests.{lt-ltb, ltb-true, ltb-false, leb-true, leb-false}
 use Rattle.laws.proofs.Choices.{by_test}
 use Rattle.progress.specs.Steps.{Stage, step_on, stage_after}
 use Rattle.feed.specs.Feeding.{taken, take_dword, take_chunk}
@@ -17,31 +17,11 @@ module _ (s n : ℕ) where
   pub count_over : 16384 < s → 16385 ≡ dwords_after s n
   count_over p = simp (lt-ltb 16384 (s + n) (omega arith))
 
-  pub count_last : s ≤ 16384 → 16384 - s < n → 16385 ≡ dwords_after s n
-  count_last p q = simp (lt-ltb 16384 (s + n) (omega arith))
-
-  pub count_on : s ≤ 16384 → n ≤ 16384 - s → s + n ≡ dwords_after s n
-  count_on p q = simp (le-ltb 16384 (s + n) (omega arith))
-
-  pub read_over : 16384 < s → 0 ≡ read_count s n
-  read_over p =
-      by_test (leb n (16384 - s))
-      (λ e. let z = leb-true n (16384 - s) e in simp e (let y : 0 ≡ n = omega arith in y))
-      (λ e. simp e (let y : 0 ≡ 16384 - s = omega arith in y))
-
-  pub read_all : n ≤ 16384 - s → n ≡ read_count s n
-  read_all q = simp (le-leb n (16384 - s) q)
-
-  pub read_part : 16384 - s < n → 16384 - s ≡ read_count s n
-  read_part q = simp (lt-leb n (16384 - s) q)
-
   pub read_few : (read_count s n ≤ n) × (read_count s n ≤ 16384 - s)
   read_few =
       by_test (leb n (16384 - s))
       (λ e. let z = leb-true n (16384 - s) e in let y : read_count s n ≡ n = simp e in (omega arith, omega arith))
       (λ e. let z = leb-false n (16384 - s) e in let y : read_count s n ≡ 16384 - s = simp e in (omega arith, omega arith))
-
-pub ruleset counts = (count_over, count_last, count_on, read_over, read_all, read_part)
 
 pub read_take : (s : ℕ) (l : List ℕ) → take (read_count s (length l)) l ≡ take (16384 - s) l
 read_take s l =

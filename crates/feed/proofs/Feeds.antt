@@ -1,19 +1,19 @@
 -- What a call shows, over plain values. Assumes nothing.
 use mathlib.Core.Path.{◌≡◌, refl, sym, ap, ap₂, subst, ◌∙◌}
-use mathlib.Core.Bool.{Bool, true, false, cond, ◌&&◌, ◌||◌}
+use mathlib.Core.Bool.{Bool, true, false, cond, ◌&&◌}
 use Prim.Native.Nat.{ℕ, ◌+◌, ◌-◌, ◌*◌, ◌/◌, ◌<◌, ◌≤◌}
 use native.Mathlib.Omega.{arith}
 use mathlib.Core.List.{List, [], ◌∷◌, append-nil}
 use lib.ListN.{length, get_or, take}
 use lib.Seq.{length-take-le, take_all}
 use lib.Dec.{ltb, leb, eqb}
-use borrow.Author.Tests.{lt-ltb, le-ltb, ltb-true, ltb-false, le-leb, lt-leb, leb-true, eq-eqb, ne_eqb, eqb-true}
+use borrow.Author.Tests.{lt-ltb, le-ltb, ltb-true, ltb-false, leb-true, eq-eqb, ne_eqb, eqb-true}
 use Rattle.laws.proofs.Choices.{by_test, and_left, and_right}
 use Rattle.chips.specs.declared.Target.{Target}
 use Rattle.chips.specs.Chips.{target_of, named_by}
 use Rattle.chips.specs.declared.Chip.{Chip}
-use Rattle.chips.specs.declared.Named.{Named}
-use Rattle.chips.specs.declared.Named.TheVariants.{Unknown, Known}
+use Rattle.std.specs.Prelude.{Result, Ok, Err}
+use Rattle.chips.specs.declared.Refusal.{Refusal}
 use Rattle.chips.proofs.Chips.{chip_unknown, chip_known}
 use Rattle.batch.specs.declared.Answer.{Answer}
 use Rattle.batch.specs.Answers.{refused_answer, accepted_answer}
@@ -44,84 +44,13 @@ pub carry_is : (n : ℕ) (p : Progress) (o : Order) → o ≡ order_by p.st
     → record { answered = 0; dwords = n; stop = p.stop; place = p.place; got = p.got; own = p.own; order = o } ≡ carried_by n p
 carry_is n p o e = ap (λ (x : Order). record { answered = 0; dwords = n; stop = p.stop; place = p.place; got = p.got; own = p.own; order = x }) e
 
--- may a call go on?
-module _ (c : Carried) where
-  abbrev rest : Bool
-  rest = cond (eqb c.stop 0) (goes_on c) (is_stop c.stop)
+-- how far reading has come, or how it stopped
+abbrev rest : Carried → Bool
+rest c = cond (eqb c.stop 0) (goes_on c) (is_stop c.stop)
 
-  pub usable_answered : (c.answered ≡ 0 → ⊥) → false ≡ usable c
-  unfolding usable
-  usable_answered n = simp (ne_eqb c.answered 0 n)
-
-  module _ (a : c.answered ≡ 0) where
-    pub usable_over : 16385 < c.dwords → false ≡ usable c
-    unfolding usable
-    usable_over q = simp (eq-eqb c.answered 0 a, lt-leb c.dwords 16385 q)
-
-    module _ (d : c.dwords ≤ 16385) where
-      usable_rest : usable c ≡ rest
-      unfolding usable
-      usable_rest = simp (eq-eqb c.answered 0 a, le-leb c.dwords 16385 d)
-
-      pub usable_on : (r : Bool) → c.stop ≡ 0 → r ≡ goes_on c → r ≡ usable c
-      usable_on r e q = q ∙ sym (usable_rest ∙ ap (λ (t : Bool). cond t (goes_on c) (is_stop c.stop)) (eq-eqb c.stop 0 e))
-
-      pub usable_stop : (r : Bool) → (c.stop ≡ 0 → ⊥) → r ≡ is_stop c.stop → r ≡ usable c
-      usable_stop r e q = q ∙ sym (usable_rest ∙ ap (λ (t : Bool). cond t (goes_on c) (is_stop c.stop)) (ne_eqb c.stop 0 e))
-
-pub ruleset usable_laws = (usable_answered, usable_over, usable_on, usable_stop)
-
--- how reading can have stopped
-module _ (n : ℕ) where
-  or_true : (a : Bool) → a || true ≡ true
-  or_true true = refl
-  or_true false = refl
-
-  pub stop_chip : n ≡ 18 → true ≡ is_stop n
-  stop_chip e = simp (eq-eqb n 18 e, or_true)
-
-  pub stop_end : n ≡ 255 → true ≡ is_stop n
-  stop_end e = simp (eq-eqb n 255 e, or_true)
-
-  module _ (a : n ≡ 18 → ⊥) (b : n ≡ 255 → ⊥) where
-    or_no : (x : Bool) → x || false ≡ x
-    or_no true = refl
-    or_no false = refl
-
-    stop_number : is_stop n ≡ leb 3 n && leb n 9
-    stop_number = simp (ne_eqb n 18 a, ne_eqb n 255 b, or_no)
-
-    pub stop_low : n < 3 → false ≡ is_stop n
-    stop_low q = sym (stop_number ∙ simp (lt-leb 3 n q))
-
-    pub stop_other : 3 ≤ n → leb n 9 ≡ is_stop n
-    stop_other q = sym (stop_number ∙ simp (le-leb 3 n q))
-
-pub ruleset stop_laws = (stop_chip, stop_end, stop_low, stop_other)
-
--- a reading that goes on
-module _ (c : Carried) (read : ℕ) (er : read ≡ read_of c.dwords) where
-  abbrev commands : ℕ
-  commands = c.order.commands
-
-  pub goes_place : read < c.place → false ≡ goes_on c
-  goes_place q = simp (lt-leb (c.place + c.got) (read_of c.dwords) (omega arith))
-
-  module _ (a : c.place ≤ read) where
-    pub goes_got : read - c.place < c.got → false ≡ goes_on c
-    goes_got q = simp (lt-leb (c.place + c.got) (read_of c.dwords) (omega arith))
-
-    module _ (b : c.got ≤ read - c.place) where
-      low : leb (c.place + c.got) (read_of c.dwords) ≡ true
-      low = le-leb (c.place + c.got) (read_of c.dwords) (omega arith)
-
-      pub goes_commands : c.place < c.order.commands → false ≡ goes_on c
-      goes_commands q = simp (low, lt-leb c.order.commands c.place q)
-
-      pub goes_objects : c.order.commands ≤ c.place → leb c.order.objects c.place ≡ goes_on c
-      goes_objects q = simp (low, le-leb c.order.commands c.place q)
-
-pub ruleset goes_laws = (goes_place, goes_got, goes_commands, goes_objects)
+pub usable_answered : (c : Carried) → (c.answered ≡ 0 → ⊥) → false ≡ usable c
+unfolding usable
+usable_answered c n = simp (ne_eqb c.answered 0 n)
 
 -- what a carried state that can be gone on from keeps to
 module _ (c : Carried) (u : usable c ≡ true) where
@@ -274,66 +203,71 @@ over_taken target c l r u w c' ec =
     ∙ sym (ap left_by (take_chunk_lem l c.dwords (stage (resumed target c) r) (usable_few c u)))
 
 -- after a chunk, by what chip is named
-module _ (chip capacity : ℕ) (c : Carried) (l r : List ℕ) (n : Named) (en : n ≡ named_by chip) where
-  pub chunk_unnamed : (c' : Carried) → n ≡ Unknown → c' ≡ refused_by 18 0 c → left c' r ≡ after_chunk chip capacity c l r
+module _ (chip capacity : ℕ) (c : Carried) (l r : List ℕ) (n : Result Chip Refusal) (en : n ≡ named_by chip) where
+  pub chunk_unnamed : (c' : Carried) (f : Refusal) → n ≡ Err f → c' ≡ refused_by 18 0 c → left c' r ≡ after_chunk chip capacity c l r
   unfolding after_chunk
-  chunk_unnamed c' e ec = chip_unknown (λ m p. left (refused_by m p c) r) (λ ch. chunk_taken (target_of ch capacity) c l r) chip n en (left c' r) e (ap (λ (x : Carried). left x r) ec)
+  chunk_unnamed c' f e ec = chip_unknown (λ m p. left (refused_by m p c) r) (λ ch. chunk_taken (target_of ch capacity) c l r) chip n en (left c' r) f e (ap (λ (x : Carried). left x r) ec)
 
-  pub chunk_named : (ch : Chip) (s : Left) → n ≡ Known ch → s ≡ chunk_taken (target_of ch capacity) c l r → s ≡ after_chunk chip capacity c l r
+  pub chunk_named : (ch : Chip) (s : Left) → n ≡ Ok ch → s ≡ chunk_taken (target_of ch capacity) c l r → s ≡ after_chunk chip capacity c l r
   unfolding after_chunk
   chunk_named ch s e es = chip_known (λ m p. left (refused_by m p c) r) (λ x. chunk_taken (target_of x capacity) c l r) chip n en s ch e es
 
 pub ruleset chunk_laws = (chunk_unnamed, chunk_named)
 
--- the answer
-module _ (c : Carried) (room : ℕ) where
-  pub answer_chip : (a : Answer) → c.stop ≡ 18 → a ≡ refused_answer 18 0 → a ≡ answer_at room c
+-- the answer, by refusals' numbers as the code asks them: u is 18
+module _ (c : Carried) (room u : ℕ) (eu : u ≡ 18) (a : Answer) where
+  pub answer_chip : (n : ℕ) → c.stop ≡ u → n ≡ 18 → a ≡ refused_answer n 0 → a ≡ answer_at room c
   unfolding answer_at
-  answer_chip a e q = simp (eq-eqb c.stop 18 e) q
+  answer_chip n e en q = simp (eq-eqb c.stop 18 (e ∙ eu)) (q ∙ ap (λ (x : ℕ). refused_answer x 0) en)
 
-  module _ (n : c.stop ≡ 18 → ⊥) where
-    pub answer_long : (a : Answer) → 16384 < c.dwords → a ≡ refused_answer 1 0 → a ≡ answer_at room c
+  module _ (nu : c.stop ≡ u → ⊥) where
+    not_chip : c.stop ≡ 18 → ⊥
+    not_chip e = nu (e ∙ sym eu)
+
+    pub answer_long : (n : ℕ) → 16384 < c.dwords → n ≡ 1 → a ≡ refused_answer n 0 → a ≡ answer_at room c
     unfolding answer_at
-    answer_long a p q = simp (ne_eqb c.stop 18 n, lt-ltb 16384 c.dwords p) q
+    answer_long n p en q = simp (ne_eqb c.stop 18 not_chip, lt-ltb 16384 c.dwords p) (q ∙ ap (λ (x : ℕ). refused_answer x 0) en)
 
     module _ (f : c.dwords ≤ 16384) where
-      pub answer_used : (a : Answer) → c.stop ≡ 0 → c.got ≡ 0 → a ≡ refused_answer 2 c.place → a ≡ answer_at room c
+      pub answer_used : (n : ℕ) → c.stop ≡ 0 → c.got ≡ 0 → n ≡ 2 → a ≡ refused_answer n c.place → a ≡ answer_at room c
       unfolding answer_at stop_by
-      answer_used a o g q = simp (ne_eqb c.stop 18 n, le-ltb 16384 c.dwords f, eq-eqb c.stop 0 o, eq-eqb c.got 0 g) q
+      answer_used n o g en q =
+          simp (ne_eqb c.stop 18 not_chip, le-ltb 16384 c.dwords f, eq-eqb c.stop 0 o, eq-eqb c.got 0 g) (q ∙ ap (λ (x : ℕ). refused_answer x c.place) en)
 
-      pub answer_past : (a : Answer) → c.stop ≡ 0 → (c.got ≡ 0 → ⊥) → a ≡ refused_answer 5 c.place → a ≡ answer_at room c
+      pub answer_past : (n : ℕ) → c.stop ≡ 0 → (c.got ≡ 0 → ⊥) → n ≡ 5 → a ≡ refused_answer n c.place → a ≡ answer_at room c
       unfolding answer_at stop_by
-      answer_past a o g q = simp (ne_eqb c.stop 18 n, le-ltb 16384 c.dwords f, eq-eqb c.stop 0 o, ne_eqb c.got 0 g) q
+      answer_past n o g en q =
+          simp (ne_eqb c.stop 18 not_chip, le-ltb 16384 c.dwords f, eq-eqb c.stop 0 o, ne_eqb c.got 0 g) (q ∙ ap (λ (x : ℕ). refused_answer x c.place) en)
 
-      module _ (o : c.stop ≡ 0 → ⊥) where
-        pub answer_fault : (a : Answer) → (c.stop ≡ 255 → ⊥) → a ≡ refused_answer c.stop c.place → a ≡ answer_at room c
+      pub answer_fault : (c.stop ≡ 0 → ⊥) → (c.stop ≡ 255 → ⊥) → a ≡ refused_answer c.stop c.place → a ≡ answer_at room c
+      unfolding answer_at stop_by
+      answer_fault o e q = simp (ne_eqb c.stop 18 not_chip, le-ltb 16384 c.dwords f, ne_eqb c.stop 0 o, ne_eqb c.stop 255 e) q
+
+      module _ (e : c.stop ≡ 255) where
+        on : c.stop ≡ 0 → ⊥
+        on z = omega arith
+
+        pub answer_room : (n : ℕ) → room / 16 < c.order.commands → n ≡ 10 → a ≡ refused_answer n c.place → a ≡ answer_at room c
         unfolding answer_at stop_by
-        answer_fault a e q = simp (ne_eqb c.stop 18 n, le-ltb 16384 c.dwords f, ne_eqb c.stop 0 o, ne_eqb c.stop 255 e) q
+        answer_room n p en q =
+            simp (
+              ne_eqb c.stop 18 not_chip,
+              le-ltb 16384 c.dwords f,
+              ne_eqb c.stop 0 on,
+              eq-eqb c.stop 255 e,
+              lt-ltb room (16 * c.order.commands) (omega arith),
+            ) (q ∙ ap (λ (x : ℕ). refused_answer x c.place) en)
 
-        module _ (e : c.stop ≡ 255) where
-          pub answer_room : (a : Answer) → room / 16 < c.order.commands → a ≡ refused_answer 10 c.place → a ≡ answer_at room c
-          unfolding answer_at stop_by
-          answer_room a p q =
-              simp (
-                ne_eqb c.stop 18 n,
-                le-ltb 16384 c.dwords f,
-                ne_eqb c.stop 0 o,
-                eq-eqb c.stop 255 e,
-                lt-ltb room (16 * c.order.commands) (omega arith),
-              ) q
-
-          pub answer_all : (a : Answer) → c.order.commands ≤ room / 16 → a ≡ accepted_answer c.order.commands c.place → a ≡ answer_at room c
-          unfolding answer_at stop_by
-          answer_all a p q =
-              simp (
-                ne_eqb c.stop 18 n,
-                le-ltb 16384 c.dwords f,
-                ne_eqb c.stop 0 o,
-                eq-eqb c.stop 255 e,
-                le-ltb room (16 * c.order.commands) (omega arith),
-              ) q
-
-pub ruleset answers = (answer_chip, answer_long, answer_used, answer_past, answer_fault, answer_room, answer_all)
+        pub answer_all : c.order.commands ≤ room / 16 → a ≡ accepted_answer c.order.commands c.place → a ≡ answer_at room c
+        unfolding answer_at stop_by
+        answer_all p q =
+            simp (
+              ne_eqb c.stop 18 not_chip,
+              le-ltb 16384 c.dwords f,
+              ne_eqb c.stop 0 on,
+              eq-eqb c.stop 255 e,
+              le-ltb room (16 * c.order.commands) (omega arith),
+            ) q
 
 -- what a call says
 pub say_last : (last : Bool) (room : ℕ) (c k : Carried) (a : Answer) → last ≡ true → k ≡ answered c → a ≡ answer_at room c → gives k a ≡ fed_of last room c

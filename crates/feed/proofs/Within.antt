@@ -13,9 +13,10 @@ use Rattle.chips.specs.declared.Target.{Target}
 use Rattle.command.specs.declared.State.{State}
 use Rattle.command.specs.Kinds.{kind_of, total_of, head_of}
 use Rattle.command.specs.Order.{Command, command_of, state_of, state_after}
-use Rattle.judge.specs.declared.Verdict.{Verdict}
-use Rattle.judge.specs.declared.Verdict.TheVariants.{Fault, Passed}
-use Rattle.judge.specs.Refusals.{judge_of, header_verdict, own_verdict}
+use Rattle.std.specs.Prelude.{Ok, Err}
+use Rattle.chips.specs.declared.Refusal.TheVariants.{Truncated}
+use Rattle.judge.specs.declared.Fault.{Fault}
+use Rattle.judge.specs.Refusals.{Verdict, no_fault, judge_of, header_verdict, own_verdict}
 use Rattle.judge.proofs.Judged.{total_pos}
 use Rattle.reading.specs.Reading.{ended, Reading, reading, and_then, reading_of, after_verdict}
 use Rattle.reading.specs.Turns.{walk, here}
@@ -26,12 +27,12 @@ use Rattle.feed.specs.Claims.{end_within, Complete}
 
 -- what is passed by a verdict on a command, before a rest
 abbrev passed_by : Verdict → Command → List Command → List Command
-passed_by (Fault m s) c cs = []
-passed_by Passed c cs = cond (eqb c.kind 2) (c ∷ []) (c ∷ cs)
+passed_by (Err f) c cs = []
+passed_by (Ok u) c cs = cond (eqb c.kind 2) (c ∷ []) (c ∷ cs)
 
 by_passed : (v : Verdict) (c : Command) (rest : Reading) → (after_verdict v c rest).passed ≡ passed_by v c rest.passed
-by_passed (Fault m s) c rest = refl
-by_passed Passed c rest = go (eqb c.kind 2)
+by_passed (Err f) c rest = refl
+by_passed (Ok u) c rest = go (eqb c.kind 2)
   where
     go : (t : Bool) → (cond t (reading (c ∷ []) (ended (c.place + 1))) (and_then c rest)).passed
         ≡ cond t (c ∷ []) (c ∷ rest.passed)
@@ -40,8 +41,8 @@ by_passed Passed c rest = go (eqb c.kind 2)
 
 -- a command that ends past n, and what is after it
 past_by : (v : Verdict) (c : Command) (cs : List Command) (n : ℕ) → n < c.place + c.total → end_within n cs ≡ [] → end_within n (passed_by v c cs) ≡ []
-past_by (Fault m s) c cs n q e = refl
-past_by Passed c cs n q e = go (eqb c.kind 2)
+past_by (Err f) c cs n q e = refl
+past_by (Ok u) c cs n q e = go (eqb c.kind 2)
   where
     go : (t : Bool) → end_within n (cond t (c ∷ []) (c ∷ cs)) ≡ []
     go true = simp (lt-leb (c.place + c.total) n q)
@@ -49,8 +50,8 @@ past_by Passed c cs n q e = go (eqb c.kind 2)
 
 -- a command that ends within n
 inside_by : (v : Verdict) (c : Command) (cs ds : List Command) (n : ℕ) → c.place + c.total ≤ n → ds ≡ end_within n cs → passed_by v c ds ≡ end_within n (passed_by v c cs)
-inside_by (Fault m s) c cs ds n q e = refl
-inside_by Passed c cs ds n q e = go (eqb c.kind 2)
+inside_by (Err f) c cs ds n q e = refl
+inside_by (Ok u) c cs ds n q e = go (eqb c.kind 2)
   where
     go : (t : Bool) → cond t (c ∷ []) (c ∷ ds) ≡ end_within n (cond t (c ∷ []) (c ∷ cs))
     go true = simp (le-leb (c.place + c.total) n q)
@@ -109,23 +110,26 @@ module _ (d : ℕ) (ds : List ℕ) (n at : ℕ) (st : State)
   fewer : length part ≤ length ds
   fewer = let z = length-take n ds in omega arith
 
-  none_by : (l : List ℕ) (m s : ℕ) → judge_of kd (suc (length l)) (head_of kd (d ∷ l)) st ≡ Fault m s → (walk (d ∷ l) 0 at st).passed ≡ []
-  none_by l m s e = first_passed d l at st ∙ ap (λ (v : Verdict). passed_by v (here (d ∷ l) at st) (walk l (td - 1) (at + 1) (next d l at st)).passed) e
+  abbrev five : Fault
+  five = record { refusal = Truncated; skip = 0 }
 
-  refused_within : (m s : ℕ) → header_verdict kd d td ≡ Fault m s → cut ≡ end_within (at + suc n) whole
-  refused_within m s e =
-      none_by part m s (refuses st at d part m s e) ∙ sym (ap (end_within (at + suc n)) (none_by ds m s (refuses st at d ds m s e)))
+  none_by : (l : List ℕ) (f : Fault) → judge_of kd (suc (length l)) (head_of kd (d ∷ l)) st ≡ Err f → (walk (d ∷ l) 0 at st).passed ≡ []
+  none_by l f e = first_passed d l at st ∙ ap (λ (v : Verdict). passed_by v (here (d ∷ l) at st) (walk l (td - 1) (at + 1) (next d l at st)).passed) e
 
-  module _ (hp : header_verdict kd d td ≡ Passed) where
+  refused_within : (f : Fault) → header_verdict kd d td ≡ Err f → cut ≡ end_within (at + suc n) whole
+  refused_within f e =
+      none_by part f (refuses st at d part f e) ∙ sym (ap (end_within (at + suc n)) (none_by ds f (refuses st at d ds f e)))
+
+  module _ (hp : header_verdict kd d td ≡ no_fault) where
     short_within : suc (length ds) < td → cut ≡ end_within (at + suc n) whole
     short_within q =
         let f = fewer in
-        none_by part 5 0 (judge_short st at d part hp (omega arith)) ∙ sym (ap (end_within (at + suc n)) (none_by ds 5 0 (judge_short st at d ds hp q)))
+        none_by part five (judge_short st at d part hp (omega arith)) ∙ sym (ap (end_within (at + suc n)) (none_by ds five (judge_short st at d ds hp q)))
 
     past_within : suc n < td → cut ≡ end_within (at + suc n) whole
     past_within q =
         let f = few in
-        none_by part 5 0 (judge_short st at d part hp (omega arith))
+        none_by part five (judge_short st at d part hp (omega arith))
         ∙ sym (ap (end_within (at + suc n)) (first_passed d ds at st)
         ∙ past_by (verdict d ds at st) (here (d ∷ ds) at st) (walk ds (td - 1) (at + 1) (next d ds at st)).passed (at + suc n) (omega arith)
         (outside ds (td - 1) (at + 1) (at + suc n) (next d ds at st) (omega arith)))
@@ -152,8 +156,8 @@ module _ (d : ℕ) (ds : List ℕ) (n at : ℕ) (st : State)
         (λ f. whole_within (ltb-false (suc n) td f) (ltb-false (suc (length ds)) td e)))
 
   by_header : (v : Verdict) → header_verdict kd d td ≡ v → cut ≡ end_within (at + suc n) whole
-  by_header (Fault m s) e = refused_within m s e
-  by_header Passed e = passed_within e
+  by_header (Err f) e = refused_within f e
+  by_header (Ok u) e = passed_within e
 
 -- LAW
 walk_within : (l : List ℕ) (n m at : ℕ) (st : State) → (walk (take n l) m at st).passed ≡ end_within (at + n) (walk l m at st).passed

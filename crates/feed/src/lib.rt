@@ -1,13 +1,13 @@
 // The batch check fed chunk by chunk, with a small state carried between calls.
 #![tactic(auto)]
 
-ghost use Rattle.std.specs.Prelude.{◌≡◌, ◌+◌, ◌^◌, ◌<◌, true};
+ghost use Rattle.std.specs.Prelude.{◌≡◌, ◌+◌, ◌^◌, ◌<◌, true, cond, eqb};
 ghost use Rattle.feed.specs.Feeding.{state_by, order_by, resumed, carried_by, is_stop, read_of, goes_on, usable, refused_by};
 ghost use Rattle.feed.specs.Feeding.{left, chunk_taken, after_chunk, answer_at, answered, fed_of, late_fed, result_of, feed_of};
 ghost use Rattle.feed.specs.Counting.{read_count, dwords_after, InInlineData, passed_over};
 
 use batch::{Answer, accepted, refused};
-use chips::{Chip, Named, Target, chip_named};
+use chips::{Chip, Refusal, Target};
 use chunks::read_through;
 use command::State;
 use command::head::{kind, total};
@@ -54,13 +54,13 @@ pub struct Fed {
     pub answer: Answer,
 }
 
-// What the commands passed have set, for the chip and the capacity that the call names.
+// What the commands passed have set, for the chip and the capacity that the call names. Field by field, here and below: C sees an `Order`,
+// which has no chip, and the checks a `State`.
 fn state_by(target: Target, o: Order) -> State
     ensures { result ≡ state_by target o }
 {
-    let chip = target.chip;
     State {
-        chip,
+        chip: target.chip,
         capacity: target.capacity,
         earlier_vfe: o.earlier_vfe,
         vfe_in_force: o.vfe_in_force,
@@ -75,20 +75,22 @@ fn state_by(target: Target, o: Order) -> State
     }
 }
 
-fn order_by(st: State) -> Order
-    ensures { result ≡ order_by st }
-{
-    Order {
-        earlier_vfe: st.earlier_vfe,
-        vfe_in_force: st.vfe_in_force,
-        vfe_dword1: st.vfe_dword1,
-        vfe_dword2: st.vfe_dword2,
-        vfe_dword3: st.vfe_dword3,
-        vfe_dword4: st.vfe_dword4,
-        count_loaded: st.count_loaded,
-        standing: st.standing,
-        commands: st.commands,
-        objects: st.objects,
+impl From<State> for Order {
+    ghost from_gives = { λ st o. o ≡ order_by st };
+
+    fn from(st: State) -> Order {
+        Order {
+            earlier_vfe: st.earlier_vfe,
+            vfe_in_force: st.vfe_in_force,
+            vfe_dword1: st.vfe_dword1,
+            vfe_dword2: st.vfe_dword2,
+            vfe_dword3: st.vfe_dword3,
+            vfe_dword4: st.vfe_dword4,
+            count_loaded: st.count_loaded,
+            standing: st.standing,
+            commands: st.commands,
+            objects: st.objects,
+        }
     }
 }
 
@@ -96,11 +98,10 @@ fn order_by(st: State) -> Order
 fn resume(target: Target, c: Carried) -> Progress
     ensures { result ≡ resumed target c }
 {
-    let order = c.order;
+    // here and below by a variable: the check takes no array field straight into a literal
     let own = c.own;
-    let st = state_by(target, order);
     Progress {
-        st,
+        st: state_by(target, c.order),
         own,
         place: c.place,
         got: c.got,
@@ -112,9 +113,7 @@ fn resume(target: Target, c: Carried) -> Progress
 fn carry(dwords: u32, p: Progress) -> Carried
     ensures { result ≡ carried_by dwords p }
 {
-    let st = p.st;
     let own = p.own;
-    let order = order_by(st);
     Carried {
         answered: 0,
         dwords,
@@ -122,7 +121,7 @@ fn carry(dwords: u32, p: Progress) -> Carried
         place: p.place,
         got: p.got,
         own,
-        order,
+        order: Order::from(p.st),
     }
 }
 
@@ -130,88 +129,57 @@ fn carry(dwords: u32, p: Progress) -> Carried
 fn is_stop(n: u32) -> bool
     ensures { result ≡ is_stop n }
 {
-    if n == 18 {
-        return true;
-    }
-    if n == 255 {
-        return true;
-    }
-    if n < 3 {
-        return false;
-    }
-    n <= 9
+    matches!(n, 3..=9 | 18 | 255)
 }
 
 // How many dwords have been read.
 fn read_of(dwords: u32) -> u32
     ensures { result ≡ read_of dwords }
 {
-    if 16384 < dwords {
-        return 16384;
-    }
-    dwords
+    dwords.min(16384)
 }
 
 // Can a reading that goes on have come so far?
 fn goes_on(c: Carried) -> bool
     ensures { result ≡ goes_on c }
 {
-    let order = c.order;
     let read = read_of(c.dwords);
-    if read < c.place {
-        return false;
+    c.place <= read
+        && c.got <= read - c.place
+        && c.order.commands <= c.place
+        && c.order.objects <= c.place
+}
+
+// Can reading have come so far, or have stopped so?
+fn can_be(c: Carried) -> bool
+    ensures { result ≡ cond (eqb c.stop 0) (goes_on c) (is_stop c.stop) }
+{
+    match c.stop {
+        0 => goes_on(c),
+        stop => is_stop(stop),
     }
-    if read - c.place < c.got {
-        return false;
-    }
-    if c.place < order.commands {
-        return false;
-    }
-    order.objects <= c.place
 }
 
 // May a call go on from it?
+#[tactic(auto, unfolding(crate::specs::Feeding::usable))]
 fn is_usable(c: Carried) -> bool
     ensures { result ≡ usable c }
 {
-    if c.answered != 0 {
-        return false;
-    }
-    if 16385 < c.dwords {
-        return false;
-    }
-    if c.stop == 0 {
-        return goes_on(c);
-    }
-    is_stop(c.stop)
+    c.answered == 0 && c.dwords <= 16385 && can_be(c)
 }
 
 // How many of n dwords are among the first 16,384, after so many.
 fn readable(dwords: u32, n: usize) -> usize
     ensures { result ≡ read_count dwords n }
 {
-    if 16384 < dwords {
-        return 0;
-    }
-    let most = 16384 - dwords;
-    if n <= most as usize {
-        return n;
-    }
-    most as usize
+    n.min(16384_usize.saturating_sub(dwords as usize))
 }
 
 // How many dwords have come after n more: 16,385 for any more.
 fn counted(dwords: u32, n: usize) -> u32
     ensures { result ≡ dwords_after dwords n }
 {
-    if 16384 < dwords {
-        return 16385;
-    }
-    let most = 16384 - dwords;
-    if (most as usize) < n {
-        return 16385;
-    }
-    dwords + n as u32
+    (dwords as usize).saturating_add(n).min(16385) as u32
 }
 
 // Are the next n dwords inline data of the OBJECT that is not whole yet, which needs more, and all among the first 16,384?
@@ -219,21 +187,12 @@ fn in_inline_data(chip: Chip, c: Carried, n: usize) -> bool
     requires { usable c ≡ true }
     ensures { (result ≡ true → InInlineData chip c n) }
 {
-    let own = c.own;
-    let d = own[0];
-    if c.stop != 0 {
-        return false;
-    }
-    if kind(chip, d) != 7 {
-        return false;
-    }
-    if c.got < 6 {
-        return false;
-    }
-    if left_of(total(7, d), c.got) as usize <= n {
-        return false;
-    }
-    c.dwords as usize + n <= 16384
+    let d = c.own[0];
+    c.stop == 0
+        && kind(chip, d) == 7
+        && 6 <= c.got
+        && n < left_of(total(7, d), c.got) as usize
+        && c.dwords as usize + n <= 16384
 }
 
 // They are counted, and nothing else.
@@ -241,10 +200,11 @@ fn pass_over(c: Carried, n: usize) -> Carried
     requires { (c.got + n < 2 ^ 32) × (c.dwords + n < 2 ^ 32) }
     ensures { result ≡ passed_over c n }
 {
-    let mut next = c;
-    next.got = c.got + n as u32;
-    next.dwords = c.dwords + n as u32;
-    next
+    Carried {
+        got: c.got + n as u32,
+        dwords: c.dwords + n as u32,
+        ..c
+    }
 }
 
 // After a chunk, for a known chip: the dwords among the first 16,384 are read.
@@ -252,24 +212,23 @@ fn take(target: Target, c: Carried, chunk: &[u32], records: &mut [u32]) -> Carri
     requires { usable c ≡ true }
     ensures { left result records.new ≡ chunk_taken target c chunk.now records.old }
 {
-    let chip = target.chip;
-    if in_inline_data(chip, c, chunk.len()) {
+    if in_inline_data(target.chip, c, chunk.len()) {
         return pass_over(c, chunk.len());
     }
     let n = readable(c.dwords, chunk.len());
-    let part = &chunk[..n];
-    let p = read_through(part, resume(target, c), records);
+    let p = read_through(&chunk[..n], resume(target, c), records);
     carry(counted(c.dwords, chunk.len()), p)
 }
 
 // 18: a chunk for no chip is not read.
-fn refuse(number: u32, place: u32, c: Carried) -> Carried
-    ensures { result ≡ refused_by number place c }
+fn refuse(c: Carried) -> Carried
+    ensures { result ≡ refused_by 18 0 c }
 {
-    let mut next = c;
-    next.stop = number;
-    next.place = place;
-    next
+    Carried {
+        stop: Refusal::UnknownChip.number(),
+        place: 0,
+        ..c
+    }
 }
 
 // After a chunk.
@@ -277,9 +236,9 @@ fn after_chunk(chip: u32, capacity: u32, c: Carried, chunk: &[u32], records: &mu
     requires { usable c ≡ true }
     ensures { left result records.new ≡ after_chunk chip capacity c chunk.now records.old }
 {
-    match chip_named(chip) {
-        Named::Unknown => refuse(18, 0, c),
-        Named::Known { chip } => take(Target { chip, capacity }, c, chunk, records),
+    match Chip::try_from(chip) {
+        Ok(chip) => take(Target { chip, capacity }, c, chunk, records),
+        Err(_) => refuse(c),
     }
 }
 
@@ -287,35 +246,28 @@ fn after_chunk(chip: u32, capacity: u32, c: Carried, chunk: &[u32], records: &mu
 fn answer(c: Carried, room: usize) -> Answer
     ensures { result ≡ answer_at room c }
 {
-    let order = c.order;
-    if c.stop == 18 {
-        return refused(18, 0);
+    let commands = c.order.commands as usize;
+    let place = c.place as usize;
+    if c.stop == Refusal::UnknownChip.number() {
+        return refused(Refusal::UnknownChip.number(), 0);
     }
     if 16384 < c.dwords {
-        return refused(1, 0);
+        return refused(Refusal::TooLong.number(), 0);
     }
-    if c.stop == 0 {
-        if c.got == 0 {
-            return refused(2, c.place as usize);
-        }
-        return refused(5, c.place as usize);
+    match c.stop {
+        0 if c.got == 0 => refused(Refusal::NoEnd.number(), place),
+        0 => refused(Refusal::Truncated.number(), place),
+        255 if room / 16 < commands => refused(Refusal::NoRoom.number(), place),
+        255 => accepted(commands, place),
+        number => refused(number, place),
     }
-    if c.stop != 255 {
-        return refused(c.stop, c.place as usize);
-    }
-    if room / 16 < order.commands as usize {
-        return refused(10, c.place as usize);
-    }
-    accepted(order.commands as usize, c.place as usize)
 }
 
 // An answer was given.
 fn close(c: Carried) -> Carried
     ensures { result ≡ answered c }
 {
-    let mut next = c;
-    next.answered = 1;
-    next
+    Carried { answered: 1, ..c }
 }
 
 // What a call says: "more", or after the last chunk the answer.
@@ -343,7 +295,7 @@ fn late(c: Carried) -> Fed
     Fed {
         carried: c,
         more: 0,
-        answer: refused(19, 0),
+        answer: refused(Refusal::AlreadyAnswered.number(), 0),
     }
 }
 

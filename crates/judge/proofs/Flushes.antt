@@ -19,9 +19,8 @@ use Rattle.command.specs.declared.State.{State}
 use Rattle.command.specs.Fields.{dword, urb_entries, entry_size, curbe_size}
 use Rattle.command.specs.Order.{Command, earlier_vfe, media_since_flush, media_since_either, state_in_force, media_stands, media_stands_either, state_of}
 use Rattle.command.proofs.Order.{set_flag, fewer_stand, state_tells, state_chip, state_capacity}
-use Rattle.judge.specs.declared.Verdict.{Verdict}
-use Rattle.judge.specs.declared.Verdict.TheVariants.{Fault, Passed}
-use Rattle.judge.specs.Refusals.{header_rows, must_be_zero, Facts, facts_by, own_rows_by, scoreboard_only, without_flush, judge_of, judge_by_full_flush}
+use Rattle.chips.specs.declared.Refusal.TheVariants.{Order, Capacity}
+use Rattle.judge.specs.Refusals.{Verdict, refused, no_fault, header_rows, must_be_zero, Facts, facts_by, own_rows_by, scoreboard_only, without_flush, judge_of, judge_by_full_flush}
 use Rattle.judge.specs.Flushes.{stands, same_below5, facts_in, InForce, none, here, further, ScoreboardOnly, Otherwise, no_vfe, differs, Past8, Flushes}
 use Rattle.judge.proofs.Verdicts.{and_false}
 use Rattle.judge.proofs.FullFlush.{other_kind}
@@ -54,9 +53,9 @@ module _ (target : Target) (h : List ℕ) (cs : List Command) where
       let t = state_tells target cs in
       ap (λ (x : Bool). facts_by x st) unflushed_is ∙ simp (t.vfe, t.object, t.count, t.curbe, state_capacity target cs)
 
-  table_is : (k left : ℕ) → judge_of k left h st ≡ first_row Passed (header_rows k (dword h 0) left ++ own_rows_by (facts_in target h cs) target.chip k h)
+  table_is : (k left : ℕ) → judge_of k left h st ≡ first_row no_fault (header_rows k (dword h 0) left ++ own_rows_by (facts_in target h cs) target.chip k h)
   unfolding judge_of
-  table_is k left = ap₂ (λ (f : Facts) (c : Chip). first_row Passed (header_rows k (dword h 0) left ++ own_rows_by f c k h)) facts_are (state_chip target cs)
+  table_is k left = ap₂ (λ (f : Facts) (c : Chip). first_row no_fault (header_rows k (dword h 0) left ++ own_rows_by f c k h)) facts_are (state_chip target cs)
 
 same_only_true : (h : List ℕ) (cs : List Command) → ScoreboardOnly h cs → same_below5 h cs ≡ true
 same_only_true h cs s =
@@ -127,23 +126,23 @@ module _ (left : ℕ) (h : List ℕ) (st : State) where
   abbrev nine : Bool
   nine = ltb st.capacity (urb_entries h * entry_size h + curbe_size h)
 
-  past : (t : Bool) → Past8 (cond t (Fault 9 0) Passed)
+  past : (t : Bool) → Past8 (cond t (refused Capacity 0) no_fault)
   past true = inr refl
   past false = inl refl
 
   -- the rule now turns away nobody whom the rule before does not
   by_both : (before now : Bool) → (before ≡ false → now ≡ false)
-      → let was = first_row (cond before (Fault 8 0) (cond nine (Fault 9 0) Passed)) early in
-      let is = first_row (cond now (Fault 8 0) (cond nine (Fault 9 0) Passed)) early in (is ≡ was) ⊎ ((was ≡ Fault 8 0) × Past8 is)
+      → let was = first_row (cond before (refused Order 0) (cond nine (refused Capacity 0) no_fault)) early in
+      let is = first_row (cond now (refused Order 0) (cond nine (refused Capacity 0) no_fault)) early in (is ≡ was) ⊎ ((was ≡ refused Order 0) × Past8 is)
   by_both true true p = inl refl
   by_both true false p =
-      ⊎_elim (λ e. inl e) (λ q. inr (q.0, subst Past8 (sym q.1) (past nine))) (same_or_rest early (Fault 8 0) (cond nine (Fault 9 0) Passed))
+      ⊎_elim (λ e. inl e) (λ q. inr (q.0, subst Past8 (sym q.1) (past nine))) (same_or_rest early (refused Order 0) (cond nine (refused Capacity 0) no_fault))
   by_both false true p = absurd (not_both true refl (p refl))
   by_both false false p = inl refl
 
   -- what Two changes, in a command of kind k
   abbrev OneRow : ℕ → Type 0
-  OneRow k = (judge_of k left h st ≡ judge_by_full_flush k left h st) ⊎ ((k ≡ 3) × (judge_by_full_flush k left h st ≡ Fault 8 0) × Past8 (judge_of k left h st))
+  OneRow k = (judge_of k left h st ≡ judge_by_full_flush k left h st) ⊎ ((k ≡ 3) × (judge_by_full_flush k left h st ≡ refused Order 0) × Past8 (judge_of k left h st))
 
   of_vfe : OneRow 3
   unfolding judge_of judge_by_full_flush

@@ -14,9 +14,9 @@ use Rattle.chips.specs.declared.Chip.{Chip}
 use Rattle.chips.specs.declared.Chip.TheVariants.{Gen6, Gen7}
 use Rattle.command.specs.declared.State.{State}
 use Rattle.command.specs.Fields.{dword}
-use Rattle.judge.specs.declared.Verdict.{Verdict}
-use Rattle.judge.specs.declared.Verdict.TheVariants.{Fault, Passed}
-use Rattle.judge.specs.Refusals.{own_verdict, is_passed, Vouches}
+use Rattle.std.specs.Prelude.{Ok, Err}
+use Rattle.std.specs.Result.{is_ok}
+use Rattle.judge.specs.Refusals.{Verdict, no_fault, own_verdict, Vouches}
 use Rattle.judge.proofs.Verdicts.{object_can, plain}
 
 -- no vouches for nothing
@@ -31,9 +31,9 @@ no_vouches k h st = record { passes = λ e. absurd (differ e) }
     differ e = let z = ap number e in omega arith
 
 -- a verdict vouches for what it lets pass
-pub passed_vouches : (k n : ℕ) (h : List ℕ) (st : State) (v : Verdict) (r : Bool) → k ≡ n → v ≡ own_verdict n h st → r ≡ is_passed v → Vouches k h st r
-passed_vouches k n h st (Fault m s) r p e q = subst (Vouches k h st) (sym q) (no_vouches k h st)
-passed_vouches k n h st Passed r p e q = record { passes = λ y. ap (λ (x : ℕ). own_verdict x h st) p ∙ sym e }
+pub passed_vouches : (k n : ℕ) (h : List ℕ) (st : State) (v : Verdict) (r : Bool) → k ≡ n → v ≡ own_verdict n h st → r ≡ is_ok v → Vouches k h st r
+passed_vouches k n h st (Err f) r p e q = subst (Vouches k h st) (sym q) (no_vouches k h st)
+passed_vouches k n h st (Ok u) r p e q = record { passes = λ y. ap (λ (x : ℕ). own_verdict x h st) p ∙ sym e }
 
 pub as_vouches : (k n : ℕ) (h : List ℕ) (st : State) (r : Bool) → k ≡ n → Vouches n h st r → Vouches k h st r
 as_vouches k n h st r p e = subst (λ (x : ℕ). Vouches x h st r) (sym p) e
@@ -71,7 +71,7 @@ object_passes : (h : List ℕ) (st : State) (a b c d : ℕ)
     → not (eqb a 0) ≡ any_set (marked_bits st.chip 7 2) (dword h 2) → not (eqb b 0) ≡ any_set (marked_bits st.chip 7 3) (dword h 3)
     → not (eqb c 0) ≡ any_set (marked_bits st.chip 7 4) (dword h 4) → not (eqb d 0) ≡ any_set (marked_bits st.chip 7 5) (dword h 5)
     → bit_or (bit_or (bit_or a b) c) d ≡ 0 → (st.earlier_vfe ≡ 0 → ⊥) → st.count_loaded ≤ 64
-    → bit_and (dword h 1) 255 < st.count_loaded → own_verdict 7 h st ≡ Passed
+    → bit_and (dword h 1) 255 < st.count_loaded → own_verdict 7 h st ≡ no_fault
 object_passes h st a b c d ea eb ec ed z v n l =
     let x = dword h 1 in
     let p = or_left (bit_or (bit_or a b) c) d in

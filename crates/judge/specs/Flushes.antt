@@ -10,9 +10,8 @@ use Rattle.masks.specs.MustBeZero.{marked_bits}
 use Rattle.command.specs.declared.State.{State}
 use Rattle.command.specs.Fields.{dword, curbe_size}
 use Rattle.command.specs.Order.{Command, stands_since, earlier_vfe, count_loaded, state_in_force, state_of}
-use Rattle.judge.specs.declared.Verdict.{Verdict}
-use Rattle.judge.specs.declared.Verdict.TheVariants.{Fault, Passed}
-use Rattle.judge.specs.Refusals.{Facts, header_rows, own_rows_by, judge_of, judge_by_full_flush}
+use Rattle.chips.specs.declared.Refusal.TheVariants.{Order, Capacity}
+use Rattle.judge.specs.Refusals.{Verdict, refused, no_fault, Facts, header_rows, own_rows_by, judge_of, judge_by_full_flush}
 
 -- does a command of kind 3, 4, 5, 7 or 8 stand since the last of the kinds in `flushes`, or since the start?
 abbrev pub stands : List ℕ → List Command → Bool
@@ -63,13 +62,13 @@ pub data Otherwise (h : List ℕ) (cs : List Command) : Type 0 where
 
 -- what a verdict past row 8 is: the command passes, or 9 turns it away
 abbrev pub Past8 : Verdict → Type 0
-Past8 v = (v ≡ Passed) ⊎ (v ≡ Fault 9 0)
+Past8 v = (v ≡ no_fault) ⊎ (v ≡ refused Capacity 0)
 
 pub record Flushes : Type 0 where
   -- the table, by the list: of any command, rows 3 to 9, of which the first that holds decides
   pub table : (target : Target) (k left : ℕ) (h : List ℕ) (cs : List Command)
       → judge_of k left h (state_of target cs)
-      ≡ first_row Passed (header_rows k (dword h 0) left ++ own_rows_by (facts_in target h cs) target.chip k h)
+      ≡ first_row no_fault (header_rows k (dword h 0) left ++ own_rows_by (facts_in target h cs) target.chip k h)
   -- 02: "such a VFE now passes 8 if no command of kind 3, 4, 5, 7 or 8 stands since the last kind 1 or kind 6"
   pub scoreboard_only : (h : List ℕ) (cs : List Command) → ScoreboardOnly h cs → unflushed_in h cs ≡ stands (1 ∷ 6 ∷ []) cs
   -- 02: "brings the old rule back", which is 01's: "since the last MI_FLUSH or the start"
@@ -84,4 +83,4 @@ pub record Flushes : Type 0 where
   -- Two changes no other verdict: what differs from the rule before is a VFE that 8 turned away and that is let past 8
   pub one_row : (k left : ℕ) (h : List ℕ) (st : State)
       → (judge_of k left h st ≡ judge_by_full_flush k left h st)
-      ⊎ ((k ≡ 3) × (judge_by_full_flush k left h st ≡ Fault 8 0) × Past8 (judge_of k left h st))
+      ⊎ ((k ≡ 3) × (judge_by_full_flush k left h st ≡ refused Order 0) × Past8 (judge_of k left h st))

@@ -4,26 +4,25 @@ use mathlib.Core.Bool.{Bool, cond}
 use mathlib.Core.List.{List, [], ◌++◌}
 use Prim.Native.Nat.{ℕ, ◌+◌, ◌*◌, ◌%◌, ◌≤◌, ◌<◌}
 use native.Mathlib.Omega.{arith}
-use lib.ListN.{length, set, drop, length-append}
+use lib.ListN.{length, set, take, drop, length-append}
 use lib.Seq.{length-take-le}
 use borrow.Author.Tests.{lt-ltb, le-ltb, eq-eqb, ne_eqb}
 use Rattle.listing.specs.Prefix.{IsPrefixLen}
 use Rattle.chips.specs.declared.Chip.{Chip}
 use Rattle.chips.specs.Chips.{target_of}
-use Rattle.words.specs.Dwords.{dwords_of, dwords_in, Buffer, buffer, put_in}
-use Rattle.words.proofs.Dwords.{in_none, in_dwords, length_dwords}
+use Rattle.words.specs.Dwords.{dwords_of, Buffer, lent_buffer, put_in}
+use Rattle.words.specs.Lengths.{length_dwords}
 use Rattle.command.specs.Order.{Command}
-use Rattle.reading.specs.declared.Scanned.{Scanned}
-use Rattle.reading.specs.declared.Scanned.TheVariants.{Stopped, Ended}
 use Rattle.reading.specs.Reading.{Stop, ended, stopped, reading_of}
 use Rattle.records.specs.Records.{written, recorded}
-use Rattle.records.proofs.Buffers.{written_view}
-use Rattle.reading.specs.Decision.{at_stop, decided, decision_of}
+use Rattle.records.proofs.Buffers.{written_items}
+use Rattle.reading.specs.Decision.{Scanned, Stopped, Ended, at_stop, decided, decision_of}
 use Rattle.reading.proofs.EndToEnd.{kinds_known}
 use Rattle.reading.proofs.Counts.{passed_count}
 use Rattle.reading.proofs.Decisions.{by_refusal, by_success, fits_commands}
 use Rattle.text.specs.Lines.{accepted_line, refused_line, mark_line}
 use Rattle.listing.specs.Listing.{lines_of, read_text, batch_text, odd_text, text_of}
+use Rattle.text.specs.declared.Page.{Page}
 use Rattle.text.specs.Writing.{Wrote}
 use Rattle.listing.specs.RecordLines.{KindsNamed, record_lines}
 use Rattle.text.proofs.Pieces.{then, known_as}
@@ -35,7 +34,7 @@ stop_text cs (stopped m p) h = refl
 stop_text cs (ended d) h = simp (le-ltb 16384 (16 * length cs) (omega arith))
 
 -- w is what the batch check decided
-module _ (chip : Chip) (input : List ℕ) (h : length input ≤ 4096) (w : Scanned) (ew : w ≡ decision_of (target_of chip 2048) 16384 (dwords_in [] input)) where
+module _ (chip : Chip) (input : List ℕ) (h : length input ≤ 4096) (w : Scanned) (decides : w ≡ decision_of (target_of chip 2048) 16384 (dwords_of input)) where
   abbrev cs : List Command
   cs = (reading_of (target_of chip 2048) (dwords_of input)).passed
 
@@ -45,9 +44,6 @@ module _ (chip : Chip) (input : List ℕ) (h : length input ≤ 4096) (w : Scann
   few : length cs ≤ 1024
   few = let p = passed_count (target_of chip 2048) (dwords_of input) in let q = few_dwords in omega arith
 
-  decides : w ≡ decision_of (target_of chip 2048) 16384 (dwords_of input)
-  decides = ew ∙ ap (decision_of (target_of chip 2048) 16384) (in_none input)
-
   decided_text : decided refused_line (λ c d. lines_of cs ++ accepted_line c d) (target_of chip 2048) 16384 (dwords_of input) ≡ batch_text chip (dwords_of input)
   unfolding decided batch_text
   decided_text =
@@ -55,31 +51,26 @@ module _ (chip : Chip) (input : List ℕ) (h : length input ≤ 4096) (w : Scann
       (le-ltb 16384 (length (dwords_of input)) (let q = few_dwords in omega arith))
       ∙ stop_text cs (reading_of (target_of chip 2048) (dwords_of input)).stop few
 
-  pub refused_written : (m p : ℕ) (old new : List ℕ) (at r : ℕ) → w ≡ Stopped m p → Wrote old at (refused_line m p) new r → Wrote old at (batch_text chip (dwords_of input)) new r
-  refused_written m p old new at r e =
+  pub refused_written : (m p : ℕ) (page page' : Page) → w ≡ Stopped m p → Wrote page (refused_line m p) page' → Wrote page (batch_text chip (dwords_of input)) page'
+  refused_written m p page page' e =
       known_as (by_refusal refused_line (λ c d. lines_of cs ++ accepted_line c d) (target_of chip 2048) 16384 (dwords_of input) w decides m p (refused_line m p) e refl ∙ decided_text)
 
   module _ (c d o : ℕ) (e : w ≡ Ended c d o) where
     count : length cs ≡ c
     count = fits_commands (target_of chip 2048) 16384 (dwords_of input) w c d o decides e
 
+    pub records_room : 16 * length cs ≤ 16384
+    records_room = let q = few in omega arith
+
     pub few_commands : c ≤ 1024
     few_commands = let p = count in let q = few in omega arith
 
     -- records is the record buffer at entry of the second pass, and records' at its exit
     module _ (records : List ℕ) (z : length records ≡ 16384) where
-      pub records_room : 16 * length (reading_of (target_of chip 2048) (dwords_in [] input)).passed ≤ length (dwords_in records [])
-      records_room =
-          let l : length (dwords_in records []) ≡ length records = ap length (in_dwords records [] refl) in
-          let n : length (reading_of (target_of chip 2048) (dwords_in [] input)).passed ≡ length cs = ap (λ (b : List ℕ). length (reading_of (target_of chip 2048) b).passed) (in_none input) in
-          let q = few in omega arith
-
-      module _ (records' none : List ℕ) (zn : length none ≡ 0) (f : buffer records' none ≡ recorded put_in (target_of chip 2048) (dwords_in [] input) (buffer records [])) where
+      module _ (records' : List ℕ)
+          (f : lent_buffer (λ l. l) records' ≡ recorded (put_in set) (target_of chip 2048) (dwords_of input) (lent_buffer (λ l. l) records)) where
         filled : records' ≡ written set cs 0 records
-        filled =
-            sym (in_dwords records' none zn) ∙ ap (λ (x : Buffer). x.view) f ∙ written_view (reading_of (target_of chip 2048) (dwords_in [] input)).passed 0 (buffer records [])
-            ∙ ap (λ (b : List ℕ). recorded set (target_of chip 2048) b (dwords_in records [])) (in_none input)
-            ∙ ap (written set cs 0) (in_dwords records [] refl)
+        filled = ap (λ (x : Buffer ℕ). x.items) f ∙ written_items set cs 0 (lent_buffer (λ l. l) records)
 
         pub kinds_named : KindsNamed records' c
         kinds_named =
@@ -91,9 +82,9 @@ module _ (chip : Chip) (input : List ℕ) (h : length input ≤ 4096) (w : Scann
             ap (λ (r : List ℕ). record_lines r c) filled ∙ ap (record_lines (written set cs 0 records)) (sym count)
             ∙ recorded_lines cs records (let q = few in omega arith)
 
-        pub accepted_written : (old mid new : List ℕ) (at j r : ℕ) → at ≤ length old → Wrote old at (record_lines records' c) mid j → Wrote mid j (accepted_line c d) new r →
-            Wrote old at (batch_text chip (dwords_of input)) new r
-        accepted_written old mid new at j r a u v =
+        pub accepted_written : (page mid page' : Page) → page.at ≤ length page.text.now → Wrote page (record_lines records' c) mid → Wrote mid (accepted_line c d) page'
+            → Wrote page (batch_text chip (dwords_of input)) page'
+        accepted_written page mid page' a u v =
             known_as (by_success refused_line (λ c d. lines_of cs ++ accepted_line c d) (target_of chip 2048) 16384 (dwords_of input) w decides c d o (lines_of cs ++ accepted_line c d) e refl ∙ decided_text)
             (then a (known_as lines_are u) v)
 
@@ -113,11 +104,12 @@ module _ (chip : Chip) (input : List ℕ) where
     text_even q = simp (le-ltb 4096 (length input) h, eq-eqb (length input % 4) 0 q)
 
 -- a text from the start of the buffer on
-pub whole_text : (t old new : List ℕ) (r : ℕ) → Wrote old 0 t new r → (new ≡ t ++ drop (length t) old) × (r ≡ length t) × IsPrefixLen r new
-whole_text t old new r w =
-    let z : 0 + length t ≡ length t = omega arith in
-    let n : new ≡ t ++ drop (length t) old = w.bytes ∙ ap (λ (k : ℕ). t ++ drop k old) z in
-    let c : r ≡ length t = w.next ∙ z in
-    let l : length new ≡ length t + length (drop (length t) old) = ap length n ∙ length-append t (drop (length t) old) in
-    let h : r ≤ length new = omega arith in
-    (n, c, (h, sym (length-take-le r new h)))
+pub whole_text : (t : List ℕ) (page page' : Page) → page.at ≡ 0 → Wrote page t page'
+    → (page'.text.now ≡ t ++ drop (length t) page.text.now) × (page'.at ≡ length t) × IsPrefixLen page'.at page'.text.now
+whole_text t page page' s w =
+    let z : page.at + length t ≡ length t = omega arith in
+    let n : page'.text.now ≡ t ++ drop (length t) page.text.now = w.bytes ∙ ap (λ (k : ℕ). take k page.text.now ++ t ++ drop (k + length t) page.text.now) s ∙ ap (λ (k : ℕ). t ++ drop k page.text.now) (let q : 0 + length t ≡ length t = omega arith in q) in
+    let c : page'.at ≡ length t = w.next ∙ z in
+    let l : length page'.text.now ≡ length t + length (drop (length t) page.text.now) = ap length n ∙ length-append t (drop (length t) page.text.now) in
+    let h : page'.at ≤ length page'.text.now = omega arith in
+    (n, c, (h, sym (length-take-le page'.at page'.text.now h)))

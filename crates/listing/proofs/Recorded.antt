@@ -1,11 +1,12 @@
 -- The lines out of the records are the lines of the commands. Assumes nothing.
 use mathlib.Core.Path.{◌≡◌, refl, sym, ap, subst, ◌∙◌}
 use mathlib.Core.List.{List, [], ◌∷◌, ◌++◌, append_assoc, append-nil}
-use Prim.Native.Nat.{ℕ, zero, suc, ◌+◌, ◌*◌, ◌≤◌, ◌<◌}
+use Prim.Native.Nat.{ℕ, zero, suc, ◌+◌, ◌-◌, ◌*◌, ◌≤◌, ◌<◌}
 use native.Mathlib.Numerals.{add-one}
 use native.Mathlib.Omega.{arith}
-use lib.ListN.{length, get_or, set, take}
-use lib.Seq.{take-length}
+use lib.ListN.{length, get_or, set, take, drop, length-append, length-drop, get_or-append}
+use lib.Seq.{take-length, length-take-le, drop-drop, get_or-drop}
+use Rattle.std.proofs.lemmas.List.{drop_at, get_or-take}
 use Rattle.command.specs.Order.{Command}
 use Rattle.record.specs.Record.{record_of}
 use Rattle.records.specs.Records.{slot, written}
@@ -13,15 +14,40 @@ use Rattle.reading.specs.Vfes.{no_command, command_number}
 use Rattle.records.proofs.Slots.{word_at_lem}
 use Rattle.text.specs.Lines.{line_of}
 use Rattle.listing.specs.Listing.{lines_of}
+use Rattle.text.specs.declared.Page.{Page}
 use Rattle.text.specs.Writing.{Wrote}
 use Rattle.listing.specs.RecordLines.{KindsNamed, record_lines}
 use Rattle.text.proofs.Pieces.{then}
 
--- the turns of the loop over the records
-pub lines_again : (records o m n : List ℕ) (from i j k p q s : ℕ) → from ≤ length o → p ≡ slot i 1 → q ≡ slot i 0 → s ≡ slot i 2 → Wrote o from (record_lines records i) m j
-    → Wrote m j (line_of (get_or records p 0) (get_or records q 0) (get_or records s 0)) n k → Wrote o from (record_lines records (i + 1)) n k
-unfolding record_lines
-lines_again records o m n from i j k p q s h ep eq es u v = rw (add-one i) (then h u (rw es at (rw eq at (rw ep at v))))
+-- The turns of the loop over the records: record k is x, then t is left.
+module _ (records : List ℕ) (n k : ℕ) (h : 16 * n ≤ length records) (x t : List ℕ) (e : x ++ t ≡ drop (16 * k) (take (16 * n) records)) (l : length x ≡ 16) where
+  pub chunk_within : k < n
+  chunk_within =
+      let u : length (x ++ t) ≡ 16 + length t = simp (length-append, l) in
+      let v : length (x ++ t) ≡ 16 * n - 16 * k = ap length e ∙ length-drop (16 * k) (take (16 * n) records) ∙ ap (λ (i : ℕ). i - 16 * k) (length-take-le (16 * n) records h) in
+      omega arith
+
+  pub chunk_rest : t ≡ drop (16 * (k + 1)) (take (16 * n) records)
+  chunk_rest =
+      let m : 16 * k + 16 ≡ 16 * (k + 1) = omega arith in
+      sym (drop_at x t 16 l) ∙ ap (drop 16) e ∙ drop-drop 16 (16 * k) (take (16 * n) records) ∙ ap (λ (i : ℕ). drop i (take (16 * n) records)) m
+
+  chunk_word : (f : ℕ) → f < 16 → get_or x f 0 ≡ get_or records (slot k f) 0
+  chunk_word f p =
+      let q : f < length x = omega arith in
+      let b = chunk_within in
+      let r : 16 * k + f < 16 * n = omega arith in
+      sym (get_or-append x t 0 f q) ∙ ap (λ (s : List ℕ). get_or s f 0) e ∙ get_or-drop (16 * k) (take (16 * n) records) f 0
+      ∙ get_or-take (16 * n) records (16 * k + f) 0 r
+
+  pub chunk_named : KindsNamed records n → get_or x 0 0 < 9
+  chunk_named known = subst (λ (i : ℕ). i < 9) (sym (chunk_word 0 (omega arith))) (known k chunk_within)
+
+  pub lines_again : (p q r : Page) → p.at ≤ length p.text.now → Wrote p (record_lines records k) q
+      → Wrote q (line_of (get_or x 1 0) (get_or x 0 0) (get_or x 2 0)) r → Wrote p (record_lines records (k + 1)) r
+  unfolding record_lines
+  lines_again p q r b u v =
+      rw (add-one k) (then b u (rw (chunk_word 1 (omega arith)) at (rw (chunk_word 0 (omega arith)) at (rw (chunk_word 2 (omega arith)) at v))))
 
 -- one command more
 lines_snoc : (cs : List Command) (i : ℕ) → i < length cs →

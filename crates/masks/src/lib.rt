@@ -63,6 +63,7 @@ const MASKS: [[[u32; 8]; 9]; 2] = [
 ];
 
 // The table's row of a chip.
+#[inline(always)]
 fn chip_row(chip: Chip) -> usize
     ensures { result ≡ row_of chip }
 {
@@ -73,6 +74,7 @@ fn chip_row(chip: Chip) -> usize
 }
 
 // The must-be-zero bits that are set in d, dword i of a command of kind k, for a chip.
+#[inline(always)]
 pub fn stray(chip: Chip, k: usize, i: usize, d: u32) -> u32
     requires { (k < 9) × (i < 8) }
     ensures { not (eqb result 0) ≡ any_set (marked_bits chip k i) d }
@@ -81,6 +83,7 @@ pub fn stray(chip: Chip, k: usize, i: usize, d: u32) -> u32
 }
 
 // Is a must-be-zero bit set in d, dword i of a command of kind k, for a chip?
+#[inline(always)]
 pub fn marked(chip: Chip, k: usize, i: usize, d: u32) -> bool
     requires { (k < 9) × (i < 8) }
     ensures { result ≡ any_set (marked_bits chip k i) d }

@@ -4,19 +4,11 @@
 use chips::Chip;
 
 fn main(rt: HostRuntime) {
-    // one byte more than the listing takes tells a longer input
-    let mut input = [0u8; 4097];
-    let mut text = [0u8; 49152];
-    let listed = lister::list_input(Chip::Gen6, &mut rt.stdin(), &mut input, &mut text);
-    if !listed.whole {
-        let _ = rt
-            .stderr()
-            .write_all(b"mpl_list6: standard input: cannot be read\n");
-        return;
-    }
-    if rt.stdout().write_all(&text[..listed.length]).is_err() {
-        let _ = rt
-            .stderr()
-            .write_all(b"mpl_list6: standard output: cannot be written\n");
-    }
+    let _ = lister::run(
+        "mpl_list6",
+        Chip::Gen6,
+        &mut rt.stdin(),
+        &mut rt.stdout(),
+        &mut rt.stderr(),
+    );
 }

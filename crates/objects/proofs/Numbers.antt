@@ -186,6 +186,9 @@ module _ (d : List ℕ) (k r : ℕ) (t : Bool) (et : t ≡ is_object d r) where
     unfolding step_to
     step_object = simp (sym et ∙ not-false t q) (ap (λ (x : ℕ). k - x) ei)
 
+pub known_below : (d : List ℕ) (n k count : ℕ) → count ≡ length (objects_recorded d n) → k < count → k < length (objects_recorded d n)
+known_below d n k count e h = omega (arith, e, h)
+
 -- the walk to object k: it never passes k's record
 module _ (d : List ℕ) (n k r : ℕ) (hk : k < length (objects_recorded d n)) (inv : objects_before d r ≤ k) where
   pub walk_in : r < n

@@ -8,12 +8,13 @@ use lib.Dec.{eqb}
 use lib.ListN.{length, get_or, get_or-eq_default}
 use borrow.Author.Tests.{eq-eqb, ne_eqb, not-true, not-false}
 use Rattle.records.specs.Records.{slot}
+use Rattle.deltas.specs.declared.Position.{Position}
 use Rattle.objects.specs.declared.Candidate.{Candidate}
 use Rattle.deltas.specs.InPlay.{uses_scoreboard, type_of, joined_mask}
 use Rattle.deltas.specs.Lowest.{lowest_at}
 use Rattle.deltas.specs.Reach.{place_of, corner_of, rows_of, near_to, reached_from}
 use Rattle.deltas.proofs.Reached as deltas
-use Rattle.objects.specs.Recorded.{word_at, vfe_word_at, stalls_at, mask_at, corner_at, candidate_of, delta_to, place_at, near_at, reached_at}
+use Rattle.objects.specs.Recorded.{word_at, vfe_word_at, stalls_at, mask_at, position_at, candidate_of, delta_to, place_at, near_at, reached_at}
 
 pub word_is : (d : List ℕ) (r f i w : ℕ) → i ≡ slot r f → w ≡ get_or d i 0 → w ≡ word_at d r f
 unfolding word_at
@@ -40,10 +41,10 @@ module _ (d : List ℕ) (r own d5 : ℕ) (u : Bool) (eo : own ≡ word_at d r 4)
   unfolding stalls_at
   stalls_off q = simp (unused q)
 
-  pub stalls_on : (t : ℕ) → not u ≡ false → t ≡ type_of d5 → eqb t 0 ≡ stalls_at d r
+  pub stalls_on : (t : Bool) → not u ≡ false → t ≡ eqb (type_of d5) 0 → t ≡ stalls_at d r
   unfolding stalls_at
   stalls_on t q e =
-      ap (λ (x : ℕ). eqb x 0) (e ∙ ap type_of e5)
+      e ∙ ap (λ (x : ℕ). eqb (type_of x) 0) e5
       ∙ sym (ap (λ (b : Bool). b && eqb (type_of (vfe_word_at d r 8)) 0) (used q))
 
   -- and of 25 on an object that a candidate may wait for
@@ -52,10 +53,12 @@ module _ (d : List ℕ) (r own d5 : ℕ) (u : Bool) (eo : own ≡ word_at d r 4)
     unfolding delta_to
     delta_unused q = simp (unused q)
 
-    pub delta_there : (i jx jy : ℕ) → not u ≡ false → jx ≡ word_at d r 7 → jy ≡ word_at d r 8 → i ≡ lowest_at c.x c.y c.mask c.d6 c.d7 jx jy → i ≡ delta_to d c r
+    pub delta_there : (i : ℕ) (p : Position) → not u ≡ false → p ≡ position_at d r
+        → i ≡ lowest_at c.position.x c.position.y c.deltas.mask c.deltas.d6 c.deltas.d7 p.x p.y → i ≡ delta_to d c r
     unfolding delta_to
-    delta_there i jx jy q ex ey e =
-        e ∙ ap₂ (lowest_at c.x c.y c.mask c.d6 c.d7) ex ey ∙ simp (used q, eq-eqb (word_at d r 9) c.colour (sym ec ∙ same))
+    delta_there i p q ep e =
+        e ∙ ap (λ (z : Position). lowest_at c.position.x c.position.y c.deltas.mask c.deltas.d6 c.deltas.d7 z.x z.y) ep
+        ∙ simp (used q, eq-eqb (word_at d r 9) c.colour (sym ec ∙ same))
 
 -- other colours
 pub delta_other : (d : List ℕ) (r : ℕ) (c : Candidate) (colour : ℕ) → colour ≡ word_at d r 9 → (colour ≡ c.colour → ⊥) → 8 ≡ delta_to d c r
@@ -63,28 +66,26 @@ unfolding delta_to
 delta_other d r c colour e n = go (uses_scoreboard (word_at d r 4) (vfe_word_at d r 8)) (ne_eqb (word_at d r 9) c.colour (λ z. n (e ∙ z)))
   where
     go : (t : Bool) → eqb (word_at d r 9) c.colour ≡ false
-        → 8 ≡ cond (t && eqb (word_at d r 9) c.colour) (lowest_at c.x c.y c.mask c.d6 c.d7 (word_at d r 7) (word_at d r 8)) 8
+        → 8 ≡ cond (t && eqb (word_at d r 9) c.colour) (lowest_at c.position.x c.position.y c.deltas.mask c.deltas.d6 c.deltas.d7 (word_at d r 7) (word_at d r 8)) 8
     go true q = simp q
     go false q = refl
 
 pub ruleset delta_laws = (delta_other, delta_unused, delta_there)
 
-pub corner_is : (d : List ℕ) (r x y p : ℕ) → x ≡ word_at d r 7 → y ≡ word_at d r 8 → p ≡ corner_of x y → p ≡ corner_at d r
-corner_is d r x y p ex ey e = e ∙ ap₂ corner_of ex ey
-
 pub mask_is : (d : List ℕ) (r own mask d5 m : ℕ) → own ≡ word_at d r 4 → mask ≡ word_at d r 10 → d5 ≡ vfe_word_at d r 8 → m ≡ joined_mask own mask d5 → m ≡ mask_at d r
 mask_is d r own mask d5 m eo em e5 e = e ∙ simp (eo, em, e5)
 
--- what 25 compares, word by word
-pub candidate_is : (d : List ℕ) (r x y colour mask d6 d7 corner : ℕ) → x ≡ word_at d r 7 → y ≡ word_at d r 8 → colour ≡ word_at d r 9 → mask ≡ mask_at d r
-    → d6 ≡ vfe_word_at d r 9 → d7 ≡ vfe_word_at d r 10 → corner ≡ corner_at d r
-    → ◌≡◌ {A = Candidate} (record { x = x; y = y; colour = colour; mask = mask; d6 = d6; d7 = d7; corner = corner }) (candidate_of d r)
+-- what 25 compares
+pub candidate_is : (d : List ℕ) (r : ℕ) (p : Position) (colour mask d6 d7 corner : ℕ) → p ≡ position_at d r → colour ≡ word_at d r 9 → mask ≡ mask_at d r
+    → d6 ≡ vfe_word_at d r 9 → d7 ≡ vfe_word_at d r 10 → corner ≡ corner_of p.x p.y
+    → ◌≡◌ {A = Candidate} (record { position = p; colour = colour; deltas = record { mask = mask; d6 = d6; d7 = d7 }; corner = corner }) (candidate_of d r)
 unfolding candidate_of
-candidate_is d r x y colour mask d6 d7 corner ex ey ec em e6 e7 en = simp (ex, ey, ec, em, e6, e7, en)
+candidate_is d r p colour mask d6 d7 corner ep ec em e6 e7 en =
+    simp (ec, em, e6, e7, en) (ap (λ (z : Position). record { position = z; colour = word_at d r 9; deltas = record { mask = mask_at d r; d6 = vfe_word_at d r 9; d7 = vfe_word_at d r 10 }; corner = corner_of z.x z.y }) ep)
 
 -- the quick test, and what comes before it
-pub place_is : (d : List ℕ) (r x y p : ℕ) → x ≡ word_at d r 7 → y ≡ word_at d r 8 → p ≡ place_of x y → p ≡ place_at d r
-place_is d r x y p ex ey e = e ∙ ap₂ place_of ex ey
+pub place_is : (d : List ℕ) (r n : ℕ) (p : Position) → p ≡ position_at d r → n ≡ place_of p.x p.y → n ≡ place_at d r
+place_is d r n p ep e = e ∙ ap (λ (z : Position). place_of z.x z.y) ep
 
 pub near_is : (d : List ℕ) (r corner p : ℕ) (t : Bool) → p ≡ place_at d r → t ≡ near_to corner p → t ≡ near_at d corner r
 unfolding near_at
@@ -104,11 +105,12 @@ either true l e = sym e
 either false l e = refl
 
 -- LAW: no delta of a candidate leads to an object that fails it
-pub unreached : (d : List ℕ) (own r : ℕ) (c : Candidate) (rows : List ℕ) → c ≡ candidate_of d own → rows ≡ rows_of c.mask c.d6 c.d7
+pub unreached : (d : List ℕ) (own r : ℕ) (c : Candidate) (rows : List ℕ) → c ≡ candidate_of d own → rows ≡ rows_of c.deltas.mask c.deltas.d6 c.deltas.d7
     → reached_at d c.corner rows r ≡ false → delta_to d c r ≡ 8
 unfolding candidate_of delta_to reached_at
 unreached d own r c rows ec er e =
-    let k : c.corner ≡ corner_of c.x c.y = ap (λ (z : Candidate). z.corner) ec ∙ sym (ap (λ (z : Candidate). corner_of z.x z.y) ec) in
+    let p = c.position in
+    let k : c.corner ≡ corner_of p.x p.y = ap (λ (z : Candidate). z.corner) ec ∙ sym (ap (λ (z : Candidate). corner_of z.position.x z.position.y) ec) in
     sym (either (uses_scoreboard (word_at d r 4) (vfe_word_at d r 8) && eqb (word_at d r 9) c.colour) _
-    (deltas.unreached c.x c.y c.mask c.d6 c.d7 (word_at d r 7) (word_at d r 8)
+    (deltas.unreached p.x p.y c.deltas.mask c.deltas.d6 c.deltas.d7 (word_at d r 7) (word_at d r 8)
     (sym (ap₂ (λ (n : ℕ) (rs : List ℕ). reached_from n rs (place_of (word_at d r 7) (word_at d r 8))) k er) ∙ e)))

@@ -5,6 +5,7 @@ use Rattle.records.specs.Records.{slot}
 use Rattle.deltas.specs.InPlay.{uses_scoreboard, type_of, joined_mask}
 use Rattle.deltas.specs.Lowest.{lowest_at}
 use Rattle.deltas.specs.Reach.{place_of, corner_of, near_to, reached_from}
+use Rattle.deltas.specs.declared.Position.{Position}
 use Rattle.objects.specs.declared.Candidate.{Candidate}
 use Rattle.objects.specs.Objects.{Object, object_with, object_at}
 
@@ -82,16 +83,17 @@ mask_at d r = joined_mask (word_at d r 4) (word_at d r 10) (vfe_word_at d r 8)
 abbrev pub corner_at : List ℕ → ℕ → ℕ
 corner_at d r = corner_of (word_at d r 7) (word_at d r 8)
 
+-- where the object of record r stands
+abbrev pub position_at : List ℕ → ℕ → Position
+position_at d r = record { x = word_at d r 7; y = word_at d r 8 }
+
 -- what 25 compares, of the object of record r that is to start, and the corner for the quick test
 unfoldable pub candidate_of : List ℕ → ℕ → Candidate
 candidate_of d r =
     record {
-      x = word_at d r 7;
-      y = word_at d r 8;
+      position = position_at d r;
       colour = word_at d r 9;
-      mask = mask_at d r;
-      d6 = vfe_word_at d r 9;
-      d7 = vfe_word_at d r 10;
+      deltas = record { mask = mask_at d r; d6 = vfe_word_at d r 9; d7 = vfe_word_at d r 10 };
       corner = corner_at d r;
     }
 
@@ -99,7 +101,7 @@ candidate_of d r =
 unfoldable pub delta_to : List ℕ → Candidate → ℕ → ℕ
 delta_to d c r =
     cond (uses_scoreboard (word_at d r 4) (vfe_word_at d r 8) && eqb (word_at d r 9) c.colour)
-    (lowest_at c.x c.y c.mask c.d6 c.d7 (word_at d r 7) (word_at d r 8)) 8
+    (lowest_at c.position.x c.position.y c.deltas.mask c.deltas.d6 c.deltas.d7 (word_at d r 7) (word_at d r 8)) 8
 
 -- where the object of record r stands, as one number
 abbrev pub place_at : List ℕ → ℕ → ℕ

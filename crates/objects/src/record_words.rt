@@ -1,29 +1,39 @@
-// The words of a record, and of the VFE's record that it names.
-ghost use Rattle.std.specs.Prelude.{◌≡◌, ◌<◌};
-ghost use Rattle.words.specs.Dwords.{lent};
-ghost use Rattle.objects.specs.Recorded.{RecordIn, word_at, vfe_word_at};
+// A record in a buffer: its words, and those of the VFE's record that it names.
+ghost use Rattle.std.specs.Prelude.{◌≡◌, ◌<◌, ◌≤◌, ◌+◌, ◌*◌, length};
+ghost use Rattle.objects.specs.Recorded.{word_at, vfe_word_at};
 
 use records::slot_of;
-use words::{held, word};
+use words::Element;
 
-// Word f of record r.
-#[tactic(auto, using(crate::proofs::RecordWords::word_is))]
-pub fn record_word(rd: &[u32], rb: &[u8], r: usize, f: usize) -> u32
-    requires { RecordIn (lent rd.now rb.now) r × (f < 16) }
-    ensures { result ≡ word_at (lent rd.now rb.now) r f }
-{
-    word(rd, rb, slot_of(r, f))
+// Record `at` of a buffer, in which all its words lie.
+#[derive(Drop)]
+pub struct Record<'a, T: Element> {
+    pub records: &'a [T],
+    pub at: usize,
+    pub ghost room: { 16 * at + 16 ≤ length (T.dwords records.now) },
+    pub ghost limit: { at < 16384 },
 }
 
-// Word f of the record of the VFE in force at record r.
-#[tactic(auto, using(crate::proofs::RecordWords::vfe_word_is, crate::proofs::RecordWords::vfe_word_none))]
-pub fn vfe_word(rd: &[u32], rb: &[u8], r: usize, f: usize) -> u32
-    requires { RecordIn (lent rd.now rb.now) r × (f < 16) }
-    ensures { result ≡ vfe_word_at (lent rd.now rb.now) r f }
-{
-    let i = slot_of(record_word(rd, rb, r, 14) as usize, f);
-    if i < held(rd, rb) {
-        return word(rd, rb, i);
+impl<'a, T: Element> Record<'a, T> {
+    // Word f.
+    #[tactic(auto, using(crate::proofs::RecordWords::word_is))]
+    pub(crate) fn word(&self, f: usize) -> u32
+        requires { f < 16 }
+        ensures { result ≡ word_at (T.dwords self.now.records.now) self.now.at f }
+    {
+        T::word(self.records, slot_of(self.at, f))
     }
-    0
+
+    // Word f of the record of the VFE in force there.
+    #[tactic(auto, using(crate::proofs::RecordWords::vfe_word_is, crate::proofs::RecordWords::vfe_word_none))]
+    pub(crate) fn vfe_word(&self, f: usize) -> u32
+        requires { f < 16 }
+        ensures { result ≡ vfe_word_at (T.dwords self.now.records.now) self.now.at f }
+    {
+        let i = slot_of(self.word(14) as usize, f);
+        if i < T::held(self.records) {
+            return T::word(self.records, i);
+        }
+        0
+    }
 }

@@ -1,37 +1,55 @@
-// Where an object's record stands: a walk over the records.
+// The objects of a batch among its records, and where an object's record stands: a walk over the records.
 ghost use Rattle.std.specs.Prelude.{◌≡◌, true, ◌<◌, ◌≤◌, length};
-ghost use Rattle.words.specs.Dwords.{lent};
-ghost use Rattle.objects.specs.Recorded.{Records, RecordIn, Numbered, word_at, is_object, objects_recorded};
+ghost use Rattle.objects.specs.Recorded.{Records, Numbered, word_at, is_object, objects_recorded};
 ghost use Rattle.objects.specs.Recorded.{Spotted, Holds, step_to};
 
-use crate::Spot;
-use crate::recorded::{is_object, number};
+use crate::{Record, Spot};
+use words::Element;
 
-// By how many records the walk to object k goes on from record r: by none at its own.
-#[tactic(auto, using(crate::proofs::Numbers::step_other, crate::proofs::Numbers::step_below, crate::proofs::Numbers::step_object))]
-fn step_to(rd: &[u32], rb: &[u8], k: usize, r: usize) -> usize
-    requires { RecordIn (lent rd.now rb.now) r × (is_object (lent rd.now rb.now) r ≡ true → word_at (lent rd.now rb.now) r 15 ≤ k) }
-    ensures { result ≡ step_to (lent rd.now rb.now) k r }
-{
-    if !is_object(rd, rb, r) {
-        return 1;
-    }
-    k - number(rd, rb, r)
+// The records of so many commands, with their objects: every OBJECT's record has its object's number.
+#[derive(Drop)]
+pub struct Objects<'a, T: Element> {
+    pub records: &'a [T],
+    pub commands: usize,
+    pub count: usize,
+    pub ghost recorded: { Records (T.dwords records.now) commands },
+    pub ghost numbered: { Numbered (T.dwords records.now) commands },
+    pub ghost counted: { count ≡ length (objects_recorded (T.dwords records.now) commands) },
 }
 
-// The record of object k, by a walk from a spot at or before it.
-#[tactic(auto, using(crate::proofs::Numbers::walk_first, crate::proofs::Numbers::walk_in, crate::proofs::Numbers::walk_number))]
-pub fn record_of(rd: &[u32], rb: &[u8], n: usize, from: Spot, k: usize) -> usize
-    requires { Records (lent rd.now rb.now) n × Numbered (lent rd.now rb.now) n × Spotted (lent rd.now rb.now) n from.object from.at
-        × (from.object ≤ k) × (k < length (objects_recorded (lent rd.now rb.now) n)) }
-    ensures { Holds (lent rd.now rb.now) n k result }
-{
-    let mut r = from.at + (k - from.object);
-    loop {
-        let m = step_to(rd, rb, k, r);
-        if m == 0 {
-            return r;
+impl<'a, T: Element> Objects<'a, T> {
+    // By how many records the walk to object k goes on from record r: by none at its own.
+    #[tactic(auto, using(crate::proofs::Numbers::step_other, crate::proofs::Numbers::step_below, crate::proofs::Numbers::step_object))]
+    fn step_to(&self, k: usize, r: usize) -> usize
+        requires { (r < self.now.commands)
+            × (is_object (T.dwords self.now.records.now) r ≡ true → word_at (T.dwords self.now.records.now) r 15 ≤ k) }
+        ensures { result ≡ step_to (T.dwords self.now.records.now) k r }
+    {
+        let here = Record {
+            records: self.records,
+            at: r,
+        };
+        if !here.is_object() {
+            return 1;
         }
-        r += m;
+        k - here.number()
+    }
+
+    // The record of object k, by a walk from a spot at or before it.
+    #[tactic(auto, using(crate::proofs::Numbers::walk_first, crate::proofs::Numbers::walk_in, crate::proofs::Numbers::walk_number))]
+    pub fn record_of(&self, from: Spot, k: usize) -> usize
+        requires { Spotted (T.dwords self.now.records.now) self.now.commands from.object from.at
+            × (from.object ≤ k) × (k < self.now.count) }
+        ensures { Holds (T.dwords self.now.records.now) self.now.commands k result }
+    {
+        let mut r = from.at + (k - from.object);
+        // a hand count: the record says by how many to go on
+        loop {
+            let m = self.step_to(k, r);
+            if m == 0 {
+                return r;
+            }
+            r += m;
+        }
     }
 }

@@ -15,17 +15,19 @@ use Rattle.command.specs.Kinds.{no_kind, length_field, length_allowed, kind_of, 
 use Rattle.command.specs.Fields.{dword}
 use Rattle.command.specs.Order.{Command, state_of, state_after, object_count}
 use Rattle.command.proofs.Order.{after_commands, after_objects}
-use Rattle.judge.specs.declared.Verdict.{Verdict}
-use Rattle.judge.specs.declared.Verdict.TheVariants.{Fault, Passed}
-use Rattle.judge.specs.Refusals.{judge_of, header_verdict, own_verdict}
+use Rattle.std.specs.Prelude.{Ok, Err}
+use Rattle.chips.specs.Refusals.{number_of_refusal}
+use Rattle.judge.specs.declared.Fault.{Fault}
+use Rattle.chips.specs.declared.Refusal.TheVariants.{UnknownCommand, LengthField, Truncated}
+use Rattle.judge.specs.Refusals.{Verdict, refused, no_fault, judge_of, header_verdict, own_verdict}
 use Rattle.judge.proofs.Judged.{judge_own, judge_header, total_pos, in_range, fault_number}
-use Rattle.reading.specs.declared.Turn.TheVariants.{Last, Next}
+use Rattle.reading.specs.Turns.{Last, Next}
 use Rattle.reading.specs.Reading.{ended, stopped, Reading, reading, reading_of}
 use Rattle.reading.specs.Turns.{turned, turn_of, walk, here}
 use Rattle.reading.proofs.Walk.{reading_walk, then, walk_turn}
 use Rattle.reading.proofs.Scans.{grown}
 use Rattle.progress.specs.declared.Progress.{Progress}
-use Rattle.progress.specs.Steps.{none, fault, passes, judged, between, at_end, after_change, whole, stop_by, stop_of}
+use Rattle.progress.specs.Steps.{none, fault, faulted, passes, judged, between, at_end, after_change, whole, stop_by, stop_of}
 use Rattle.progress.specs.Sound.{Sound}
 use Rattle.progress.proofs.Runs.{Run, ran, and_then, run, run_from, run_stopped, held, run_refused, run_short, run_command}
 
@@ -47,10 +49,11 @@ module _ (m : ℕ) (p : T (leb 3 m && leb m 9)) where
 
 -- rows 3 and 4 do not see how many dwords are left, and row 5 comes after them
 abbrev with_five : Verdict → Bool → Verdict
-with_five (Fault m s) t = Fault m s
-with_five Passed t = cond t (Fault 5 0) Passed
+with_five (Err f) t = Err f
+with_five (Ok u) t = cond t (refused Truncated 0) no_fault
 
-rows : (a b t : Bool) → cond a (Fault 3 0) (cond b (Fault 4 0) (cond t (Fault 5 0) Passed)) ≡ with_five (cond a (Fault 3 0) (cond b (Fault 4 0) Passed)) t
+rows : (a b t : Bool) → cond a (refused UnknownCommand 0) (cond b (refused LengthField 0) (cond t (refused Truncated 0) no_fault))
+    ≡ with_five (cond a (refused UnknownCommand 0) (cond b (refused LengthField 0) no_fault)) t
 rows true b t = refl
 rows false true t = refl
 rows false false t = refl
@@ -101,31 +104,34 @@ module _ (st : State) (at a : ℕ) (ds : List ℕ) where
   by_header v e = e
 
   -- rows 3 and 4 refuse
-  module _ (m s : ℕ) (e : header_verdict k a t ≡ Fault m s) where
-    pub refuses : judge_of k n h st ≡ Fault m s
-    refuses = judge_header k n h st m s (by_header (Fault m s) (header_rows k a n ∙ ap (λ (v : Verdict). with_five v (ltb n t)) e))
+  module _ (f : Fault) (e : header_verdict k a t ≡ Err f) where
+    pub refuses : judge_of k n h st ≡ Err f
+    refuses = judge_header k n h st f (by_header (Err f) (header_rows k a n ∙ ap (λ (v : Verdict). with_five v (ltb n t)) e))
+
+    abbrev m : ℕ
+    m = number_of_refusal f.refusal
 
     number : T (leb 3 m && leb m 9)
     number = subst (λ (v : Verdict). T (in_range v)) refuses (fault_number k n h st)
 
-    refused_is : run (between st at) l ≡ ran [] (after_change st at (fault m s))
-    refused_is = run_refused st at a ds m s e (number_on m number)
+    refused_is : run (between st at) l ≡ ran [] (after_change st at (faulted f))
+    refused_is = run_refused st at a ds f e (number_on m number)
 
     refused_folds : Folds st at l
     unfolding after_change
     refused_folds =
         record {
-          reads = ap read_by refused_is ∙ ap (reading []) (stop_fault m number st at s) ∙ sym (turn_walk ∙ ap turn refuses);
+          reads = ap read_by refused_is ∙ ap (reading []) (stop_fault m number st at f.skip) ∙ sym (turn_walk ∙ ap turn refuses);
           sound = λ p q. subst (λ (x : Run). Sound (at + n) x.progress) (sym refused_is)
-              (sound_stopped (at + n) (after_change st at (fault m s)) (number_on m number));
+              (sound_stopped (at + n) (after_change st at (faulted f)) (number_on m number));
         }
 
-  module _ (hp : header_verdict k a t ≡ Passed) where
-    header_is : (b : Bool) → ltb n t ≡ b → header_verdict k (dword h 0) n ≡ cond b (Fault 5 0) Passed
-    header_is b e = by_header (cond b (Fault 5 0) Passed) (header_rows k a n ∙ ap₂ with_five hp e)
+  module _ (hp : header_verdict k a t ≡ no_fault) where
+    header_is : (b : Bool) → ltb n t ≡ b → header_verdict k (dword h 0) n ≡ cond b (refused Truncated 0) no_fault
+    header_is b e = by_header (cond b (refused Truncated 0) no_fault) (header_rows k a n ∙ ap₂ with_five hp e)
 
-    pub judge_short : n < t → judge_of k n h st ≡ Fault 5 0
-    judge_short q = judge_header k n h st 5 0 (header_is true (lt-ltb n t q))
+    pub judge_short : n < t → judge_of k n h st ≡ refused Truncated 0
+    judge_short q = judge_header k n h st (record { refusal = Truncated; skip = 0 }) (header_is true (lt-ltb n t q))
 
     pub judge_whole : t ≤ n → judge_of k n h st ≡ own_verdict k h st
     judge_whole q = judge_own k n h st (header_is false (le-ltb n t q))
@@ -170,11 +176,11 @@ module _ (st : State) (at a : ℕ) (ds : List ℕ) where
       ended_run : run (after at_end) (drop t l) ≡ ran [] (after at_end)
       ended_run = run_stopped (after at_end) (λ f. omega arith) (drop t l)
 
-      passed_run : (b : Bool) → eqb k 2 ≡ b → end Passed ≡ and_then st at (passes h) (run (after (cond b at_end 0)) (drop t l))
+      passed_run : (b : Bool) → eqb k 2 ≡ b → end no_fault ≡ and_then st at (passes h) (run (after (cond b at_end 0)) (drop t l))
       unfolding after_change head_of
       passed_run b e = ap (λ (x : Bool). and_then st at (passes h) (run (after (cond x at_end 0)) (drop t l))) e
 
-      passed_turn : (b : Bool) → eqb k 2 ≡ b → turn Passed ≡ then (cond b Last (Next t next)) l at st
+      passed_turn : (b : Bool) → eqb k 2 ≡ b → turn no_fault ≡ then (cond b Last (Next t next)) l at st
       passed_turn b e = ap (λ (x : Bool). then (cond x Last (Next t next)) l at st) e
 
       whole_here : whole st at h ≡ here l at st
@@ -191,9 +197,10 @@ module _ (st : State) (at a : ℕ) (ds : List ℕ) where
 
       reads_as : (v : Verdict) → T (in_range v) → read_by (end v) ≡ turn v
       unfolding after_change
-      reads_as (Fault m s) p =
-          ap read_by (run_stopped (after_change st at (fault m s)) (number_on m p) (drop t l)) ∙ ap (reading []) (stop_fault m p st at s)
-      reads_as Passed p = ap read_by (passed_run (eqb k 2) refl) ∙ passed_reads (eqb k 2) refl ∙ sym (passed_turn (eqb k 2) refl)
+      reads_as (Err f) p =
+          let m = number_of_refusal f.refusal in
+          ap read_by (run_stopped (after_change st at (faulted f)) (number_on m p) (drop t l)) ∙ ap (reading []) (stop_fault m p st at f.skip)
+      reads_as (Ok u) p = ap read_by (passed_run (eqb k 2) refl) ∙ passed_reads (eqb k 2) refl ∙ sym (passed_turn (eqb k 2) refl)
 
       left_is : at + t + length (drop t l) ≡ at + n
       left_is = let z = length-drop t l in omega arith
@@ -210,10 +217,11 @@ module _ (st : State) (at a : ℕ) (ds : List ℕ) where
 
       sound_as : (v : Verdict) → T (in_range v) → st.commands ≤ at → st.objects ≤ at → Sound (at + n) (end v).progress
       unfolding after_change
-      sound_as (Fault m s) f p q =
-          subst (λ (x : Run). Sound (at + n) x.progress) (sym (run_stopped (after_change st at (fault m s)) (number_on m f) (drop t l)))
-          (sound_stopped (at + n) (after_change st at (fault m s)) (number_on m f))
-      sound_as Passed f p q = subst (λ (x : Run). Sound (at + n) x.progress) (sym (passed_run (eqb k 2) refl)) (passed_sound (eqb k 2) refl p q)
+      sound_as (Err e) f p q =
+          let m = number_of_refusal e.refusal in
+          subst (λ (x : Run). Sound (at + n) x.progress) (sym (run_stopped (after_change st at (faulted e)) (number_on m f) (drop t l)))
+          (sound_stopped (at + n) (after_change st at (faulted e)) (number_on m f))
+      sound_as (Ok u) f p q = subst (λ (x : Run). Sound (at + n) x.progress) (sym (passed_run (eqb k 2) refl)) (passed_sound (eqb k 2) refl p q)
 
       whole_folds : Folds st at l
       whole_folds =
@@ -226,8 +234,8 @@ module _ (st : State) (at a : ℕ) (ds : List ℕ) where
     passed_folds ih = by_test (ltb n t) (λ e. short_folds (ltb-true n t e)) (λ e. whole_folds (ltb-false n t e) ih)
 
   by_verdict_lem : (v : Verdict) → header_verdict k a t ≡ v → ((s : State) → Folds s (at + t) (drop t l)) → Folds st at l
-  by_verdict_lem (Fault m s) e ih = refused_folds m s e
-  by_verdict_lem Passed e ih = passed_folds e ih
+  by_verdict_lem (Err f) e ih = refused_folds f e
+  by_verdict_lem (Ok u) e ih = passed_folds e ih
 
 shorter : (m : ℕ) (st : State) (a : ℕ) (ds : List ℕ) → length (a ∷ ds) ≤ suc m → length (drop (total_of (kind_of st.chip a) a) (a ∷ ds)) ≤ m
 shorter m st a ds q = let z = total_pos (kind_of st.chip a) a in let y = length-drop (total_of (kind_of st.chip a) a) (a ∷ ds) in omega arith

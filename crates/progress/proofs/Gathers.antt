@@ -1,13 +1,15 @@
 -- The own dwords of a command, gathered one by one. Assumes nothing.
-use mathlib.Core.Path.{◌≡◌, refl, sym, ap, ap₂, ◌∙◌}
+use mathlib.Core.Path.{◌≡◌, refl, sym, ap, ap₂, subst, ◌∙◌}
 use mathlib.Core.Bool.{Bool, true, false, cond}
 use Prim.Native.Nat.{ℕ, zero, suc, ◌+◌, ◌-◌, ◌<◌, ◌≤◌}
 use native.Mathlib.Omega.{arith}
 use mathlib.Core.List.{List, [], ◌∷◌, ◌++◌, append-nil, append_assoc}
 use lib.ListN.{length, get_or, take, drop, set, length-set, length-drop, length-append, get_or-append, get_or-eq_default}
 use lib.Seq.{get_or-set_other, get_or-set_same, get_or-take, get_or-drop, length-take-le}
-use lib.Dec.{ltb}
-use borrow.Author.Tests.{ltb-true, ltb-false, lt-ltb, le-ltb}
+use lib.Dec.{ltb, eqb}
+use borrow.Author.Tests.{ltb-true, ltb-false, lt-ltb, le-ltb, eqb-true, eqb-false}
+use denote.Param.Members.{Mut, Called}
+use Rattle.std.specs.Array.{IsFromFnResultFrom, IsFromFnResult}
 use Rattle.laws.proofs.Choices.{by_test}
 use Rattle.command.specs.declared.State.{State}
 use Rattle.command.specs.Kinds.{kind_of, total_of, head_of, own_dwords}
@@ -251,16 +253,30 @@ eight_same l e a b c d f g h i ea eb ec ed ef eg eh ei =
     cons : {x y : ℕ} {xs ys : List ℕ} → x ≡ y → xs ≡ ys → ◌≡◌ {A = List ℕ} (x ∷ xs) (y ∷ ys)
     cons p q = ap₂ (λ (x : ℕ) (xs : List ℕ). x ∷ xs) p q
 
--- LAW: the own dwords one by one
-pub gathered_picks : (most : ℕ) (l h : List ℕ) (g : ℕ) → length h ≡ 8 → (p₀ p₁ p₂ p₃ p₄ p₅ p₆ p₇ : ℕ)
-    → p₀ ≡ picked (get_or h 0 0) 0 most g l → p₁ ≡ picked (get_or h 1 0) 1 most g l → p₂ ≡ picked (get_or h 2 0) 2 most g l
-    → p₃ ≡ picked (get_or h 3 0) 3 most g l → p₄ ≡ picked (get_or h 4 0) 4 most g l → p₅ ≡ picked (get_or h 5 0) 5 most g l
-    → p₆ ≡ picked (get_or h 6 0) 6 most g l → p₇ ≡ picked (get_or h 7 0) 7 most g l
-    → p₀ ∷ p₁ ∷ p₂ ∷ p₃ ∷ p₄ ∷ p₅ ∷ p₆ ∷ p₇ ∷ [] ≡ gathered_in most h g l
-gathered_picks most l h g e p₀ p₁ p₂ p₃ p₄ p₅ p₆ p₇ e₀ e₁ e₂ e₃ e₄ e₅ e₆ e₇ =
-    eight_same (gathered_in most h g l) (gathered_length most l h g ∙ e) p₀ p₁ p₂ p₃ p₄ p₅ p₆ p₇
-    (e₀ ∙ own 0 (omega arith)) (e₁ ∙ own 1 (omega arith)) (e₂ ∙ own 2 (omega arith)) (e₃ ∙ own 3 (omega arith))
-    (e₄ ∙ own 4 (omega arith)) (e₅ ∙ own 5 (omega arith)) (e₆ ∙ own 6 (omega arith)) (e₇ ∙ own 7 (omega arith))
-  where
-    own : (j : ℕ) → j < length h → picked (get_or h j 0) j most g l ≡ get_or (gathered_in most h g l) j 0
-    own j q = sym (own_picked most l h g j q)
+-- LAW: the own dwords one by one, as calls at 0 to 7 give them
+module _ {F : Type 0} (calls : Mut F (ℕ × Unit {0}) ℕ) (f : F) (most : ℕ) (l h : List ℕ) (g : ℕ)
+    (same : (i y : ℕ) (q : F) → Called calls f (i, tt) y q → (y ≡ picked (get_or h i 0) i most g l) × (q ≡ f)) where
+  abbrev p : ℕ → ℕ
+  p j = picked (get_or h j 0) j most g l
+
+  made_from : (ys : List ℕ) (i n : ℕ) (s : F) → s ≡ f → IsFromFnResultFrom calls s ys i n → (j : ℕ) → j < n → get_or ys (i + j) 0 ≡ p (i + j)
+  made_from ys i zero s e t j q = absurd (omega arith)
+  made_from ys i (suc n) s e t j q =
+      let one = same i t.1 t.0 (subst (λ (x : F). Called calls x (i, tt) t.1 t.0) e t.3) in
+      by_test (eqb j 0)
+      (λ z. let w : i + j ≡ i = let y = eqb-true j 0 z in omega arith in
+      ap (λ (x : ℕ). get_or ys x 0) w ∙ t.2.1 0 ∙ one.0 ∙ ap p (sym w))
+      (λ z. let w : i + 1 + (j - 1) ≡ i + j = let y = eqb-false j 0 z in omega arith in
+      ap (λ (x : ℕ). get_or ys x 0) (sym w) ∙ made_from ys (i + 1) n t.0 one.1 t.4 (j - 1) (let y = eqb-false j 0 z in omega arith) ∙ ap p w)
+
+  pub made_gathered : length h ≡ 8 → (ys : List ℕ) → IsFromFnResult calls f ys 8 → ys ≡ gathered_in most h g l
+  made_gathered e ys t =
+      eight ys t.long ∙ eight_same (gathered_in most h g l) (gathered_length most l h g ∙ e) _ _ _ _ _ _ _ _
+      (own 0 (omega arith)) (own 1 (omega arith)) (own 2 (omega arith)) (own 3 (omega arith))
+      (own 4 (omega arith)) (own 5 (omega arith)) (own 6 (omega arith)) (own 7 (omega arith))
+    where
+      own : (j : ℕ) → j < 8 → get_or ys j 0 ≡ get_or (gathered_in most h g l) j 0
+      own j q =
+          let z : 0 + j ≡ j = omega arith in
+          ap (λ (x : ℕ). get_or ys x 0) (sym z) ∙ made_from ys 0 8 f refl t.each j q ∙ ap p z
+          ∙ sym (own_picked most l h g j (omega arith))

@@ -5,26 +5,26 @@ use Prim.Native.Nat.{ℕ, ◌+◌, ◌*◌, ◌/◌, ◌^◌, ◌<◌, ◌≤◌
 use native.Mathlib.Omega.{arith}
 use native.Mathlib.Nat.{mod-lt}
 use mathlib.Core.List.{List, [], ◌∷◌}
-use lib.ListN.{length, get_or}
+use lib.ListN.{length, get_or, set}
 use lib.Dec.{T, ltb, leb, eqb, lit<}
 use borrow.Author.Tests.{lt-ltb, le-ltb, leb-true, eq-eqb, ne_eqb}
 use Rattle.laws.proofs.Choices.{by_cond}
 use Rattle.laws.specs.BitRanges.{field}
-use Rattle.words.specs.Dwords.{dwords_in, Buffer, buffer, put_in}
-use Rattle.words.proofs.Dwords.{in_dwords}
+use Rattle.words.specs.Dwords.{Buffer, lent_buffer, put_in}
 use Rattle.command.specs.declared.State.{State}
 use Rattle.command.specs.Kinds.{length_field, length_allowed, kind_of, total_of}
 use Rattle.command.specs.Order.{command_of, state_after}
-use Rattle.judge.specs.declared.Verdict.{Verdict}
-use Rattle.judge.specs.declared.Verdict.TheVariants.{Fault, Passed}
-use Rattle.judge.specs.Refusals.{judge_of, header_verdict, own_verdict}
+use Rattle.std.specs.Prelude.{Ok, Err}
+use Rattle.judge.specs.declared.Fault.{Fault}
+use Rattle.judge.specs.Refusals.{Verdict, no_fault, judge_of, header_verdict, own_verdict}
+use Rattle.chips.specs.Refusals.{number_of_refusal}
 use Rattle.judge.proofs.Verdicts.{plain}
 use Rattle.judge.proofs.Judged.{judge_own, judge_header, is_early, fault_early}
 use Rattle.record.specs.Record.{record_of}
 use Rattle.records.specs.Records.{put_words}
 use Rattle.records.proofs.Buffers.{words_view}
 use Rattle.progress.specs.declared.Progress.{Progress}
-use Rattle.progress.specs.Steps.{kind_in, total_in, none, Change, fault, passes, judged, settled, between, after_change, fitted, Stage, stage, by_change, written_by}
+use Rattle.progress.specs.Steps.{kind_in, total_in, Change, fault, passes, judged, settled, between, after_change, fitted, Stage, stage, by_change, written_by}
 use Rattle.progress.specs.Parts.{Counts}
 
 -- records
@@ -32,15 +32,14 @@ pub store_none : (r : List ℕ) (i : ℕ) (w : List ℕ) → length r / 16 ≤ i
 unfolding fitted
 store_none r i w q = simp (le-ltb i (length r / 16) q)
 
-pub store_put : (r r' empty : List ℕ) (i : ℕ) (w : List ℕ) → i < length r / 16 → length empty ≡ 0
-    → buffer r' empty ≡ put_words put_in (buffer r []) i w 16 → r' ≡ fitted r i w
-unfolding fitted dwords_in
-store_put r r' empty i w q z e =
+pub store_put : (r r' : List ℕ) (i : ℕ) (w : List ℕ) → i < length r / 16
+    → lent_buffer (λ l. l) r' ≡ put_words (put_in set) (lent_buffer (λ l. l) r) i w 16 → r' ≡ fitted r i w
+unfolding fitted
+store_put r r' i w q e =
     simp (lt-ltb i (length r / 16) q)
-    (sym (in_dwords r' empty z) ∙ ap (λ (x : Buffer). x.view) e ∙ words_view (buffer r []) i w 16)
+    (ap (λ (x : Buffer ℕ). x.view) e ∙ words_view set (lent_buffer (λ l. l) r) i w 16)
 
-pub store_room : (r : List ℕ) (i : ℕ) → i < length r / 16 → 16 * i + 16 ≤ length (dwords_in r [])
-unfolding dwords_in
+pub store_room : (r : List ℕ) (i : ℕ) → i < length r / 16 → 16 * i + 16 ≤ length r
 store_room r i q = omega arith
 
 pub ruleset stores = (store_none, store_put, store_room)
@@ -50,11 +49,11 @@ record_as r r' i w w' e q = q ∙ ap (fitted r i) e
 
 -- rows 3 to 9
 module _ (k t : ℕ) (h : List ℕ) (st : State) (w : Verdict) (ew : w ≡ header_verdict k (get_or h 0 0) t) where
-  pub judge_fault : (m s : ℕ) → w ≡ Fault m s → Fault m s ≡ judge_of k t h st
-  judge_fault m s e = sym (judge_header k t h st m s (sym ew ∙ e))
+  pub judge_fault : (f : Fault) → w ≡ Err f → (r : Verdict) → r ≡ Err f → r ≡ judge_of k t h st
+  judge_fault f e r er = er ∙ sym (judge_header k t h st f (sym ew ∙ e))
 
-  pub judge_passed : (v : Verdict) → w ≡ Passed → v ≡ own_verdict k h st → v ≡ judge_of k t h st
-  judge_passed v e q = q ∙ sym (judge_own k t h st (sym ew ∙ e))
+  pub judge_passed : (u : Unit) → w ≡ Ok u → (v : Verdict) → v ≡ own_verdict k h st → v ≡ judge_of k t h st
+  judge_passed u e v q = q ∙ sym (judge_own k t h st (sym ew ∙ e))
 
 pub ruleset judges = (judge_fault, judge_passed)
 
@@ -66,37 +65,38 @@ total_small k d = by_cond (λ (n : ℕ). n ≤ 65537) (ltb k 3) 1 (length_field 
 pub place_fits : (st : State) (at k d t : ℕ) → Counts st at → t ≡ total_of k d → at + t < 2 ^ 32
 place_fits st at k d t q e = let z = total_small k d in let y = q.limit in omega arith
 
+-- a reading that stops so
+abbrev pub stop_with : Progress → ℕ → Progress
+stop_with c x = record { st = c.st; own = c.own; place = c.place; got = c.got; stop = x }
+
 -- a command that passes
 module _ (st : State) (at : ℕ) (h : List ℕ) (k t : ℕ) (ek : k ≡ kind_in st h) (et : t ≡ total_in st h) (next : State) (r r' : List ℕ) (c : Progress)
     (en : next ≡ state_after k h st) (er : r' ≡ fitted r st.commands (record_of (command_of k at t h st))) (ec : c ≡ between next (at + t)) where
-  abbrev stop_as : ℕ → Progress
-  stop_as x = record { st = c.st; own = c.own; place = c.place; got = c.got; stop = x }
-
   wrote : r' ≡ written_by st at (passes h) r
   unfolding written_by
   wrote = er ∙ ap (fitted r st.commands) (ap₂ (λ (x y : ℕ). record_of (command_of x at y h st)) ek et)
 
-  after_is : (x : ℕ) → x ≡ cond (eqb k 2) 255 0 → stop_as x ≡ after_change st at (passes h)
+  after_is : (x : ℕ) → x ≡ cond (eqb k 2) 255 0 → stop_with c x ≡ after_change st at (passes h)
   unfolding after_change
   after_is x e =
-      ap (λ (y : ℕ). stop_as y) (e ∙ ap (λ (y : ℕ). cond (eqb y 2) 255 0) ek)
+      ap (λ (y : ℕ). stop_with c y) (e ∙ ap (λ (y : ℕ). cond (eqb y 2) 255 0) ek)
       ∙ ap (λ (d : Progress). record { st = d.st; own = d.own; place = d.place; got = d.got; stop = cond (eqb (kind_in st h) 2) 255 0 }) ec
       ∙ ap₂ (λ (s : State) (p : ℕ). record { st = s; own = 0 ∷ 0 ∷ 0 ∷ 0 ∷ 0 ∷ 0 ∷ 0 ∷ 0 ∷ []; place = p; got = 0; stop = cond (eqb (kind_in st h) 2) 255 0 })
       (en ∙ ap (λ (y : ℕ). state_after y h st) ek) (ap (λ (y : ℕ). at + y) et)
 
-  pub pass_end : k ≡ 2 → stage (record { st = c.st; own = c.own; place = c.place; got = c.got; stop = 255 }) r' ≡ by_change st at (passes h) r
+  pub pass_end : k ≡ 2 → stage (stop_with c 255) r' ≡ by_change st at (passes h) r
   pass_end e = ap₂ stage (after_is 255 (simp (eq-eqb k 2 e))) wrote
 
   pub pass_on : (k ≡ 2 → ⊥) → stage c r' ≡ by_change st at (passes h) r
-  pass_on n = ap₂ stage (ap (λ (y : ℕ). stop_as y) (ap (λ (d : Progress). d.stop) ec) ∙ after_is 0 (simp (ne_eqb k 2 n))) wrote
+  pass_on n = ap₂ stage (ap (λ (y : ℕ). stop_with c y) (ap (λ (d : Progress). d.stop) ec) ∙ after_is 0 (simp (ne_eqb k 2 n))) wrote
 
 pub ruleset passed_laws = (pass_end, pass_on)
 
 -- a fault's place is one of the command's first dwords
-pub skip_small : (st : State) (at : ℕ) (h : List ℕ) (k t : ℕ) (v : Verdict) → v ≡ judge_of k t h st → (m s : ℕ) → Counts st at → v ≡ Fault m s → at + s < 2 ^ 32
-skip_small st at h k t v ev m s q e =
-    let z : T (leb s 7) = subst (λ (x : Verdict). T (is_early x)) (sym ev ∙ e) (fault_early k t h st) in
-    let y : s ≤ 7 = early s z in
+pub skip_small : (st : State) (at : ℕ) (h : List ℕ) (k t : ℕ) (v : Verdict) → v ≡ judge_of k t h st → (f : Fault) → Counts st at → v ≡ Err f → at + f.skip < 2 ^ 32
+skip_small st at h k t v ev f q e =
+    let z : T (leb f.skip 7) = subst (λ (x : Verdict). T (is_early x)) (sym ev ∙ e) (fault_early k t h st) in
+    let y : f.skip ≤ 7 = early f.skip z in
     let w = q.limit in omega arith
   where
     truth : (b : Bool) → T b → b ≡ true
@@ -118,13 +118,14 @@ module _ (st : State) (at : ℕ) (h : List ℕ) (d k t : ℕ) (ed : d ≡ get_or
     verdict_is : settled st h ≡ judged v h
     verdict_is = ap (λ (x : Verdict). judged x h) (sym (ev ∙ ap₂ (λ (x y : ℕ). judge_of x y h st) kind_is total_is))
 
-    pub settle_fault : (m s : ℕ) (r : List ℕ) (c : Progress) → v ≡ Fault m s → c ≡ after_change st at (fault m s) → stage c r ≡ by_change st at (settled st h) r
+    pub settle_fault : (f : Fault) (n : ℕ) (r : List ℕ) (c : Progress) → v ≡ Err f → n ≡ number_of_refusal f.refusal → c ≡ after_change st at (fault n f.skip)
+        → stage c r ≡ by_change st at (settled st h) r
     unfolding written_by
-    settle_fault m s r c e ec =
-        ap (λ (x : Progress). stage x r) ec ∙ ap (λ (x : Change). by_change st at x r) (sym (verdict_is ∙ ap (λ (x : Verdict). judged x h) e))
+    settle_fault f n r c e en ec =
+        ap (λ (x : Progress). stage x r) (ec ∙ ap (λ (y : ℕ). after_change st at (fault y f.skip)) en) ∙ ap (λ (x : Change). by_change st at x r) (sym (verdict_is ∙ ap (λ (x : Verdict). judged x h) e))
 
-    pub settle_passed : (s : Stage) (r : List ℕ) → v ≡ Passed → s ≡ by_change st at (passes h) r → s ≡ by_change st at (settled st h) r
-    settle_passed s r e q = q ∙ ap (λ (y : Change). by_change st at y r) (sym (verdict_is ∙ ap (λ (y : Verdict). judged y h) e))
+    pub settle_passed : (u : Unit) (s : Stage) (r : List ℕ) → v ≡ Ok u → s ≡ by_change st at (passes h) r → s ≡ by_change st at (settled st h) r
+    settle_passed u s r e q = q ∙ ap (λ (y : Change). by_change st at y r) (sym (verdict_is ∙ ap (λ (y : Verdict). judged y h) e))
 
 pub ruleset settles = (kind_is, total_is, settle_fault, settle_passed)
 
@@ -134,16 +135,16 @@ module _ (st : State) (at : ℕ) (h : List ℕ) (e : 2 ≡ kind_in st h) where
   unfolding total_of
   end_total = ap (λ (k : ℕ). total_of k (get_or h 0 0)) e
 
-  end_verdict : judge_of (kind_in st h) (total_in st h) h st ≡ Passed
+  end_verdict : judge_of (kind_in st h) (total_in st h) h st ≡ no_fault
   unfolding header_verdict length_allowed total_of
   end_verdict =
       ap₂ (λ (k t : ℕ). judge_of k t h st) (sym e) (sym end_total) ∙ judge_own 2 1 h st refl
       ∙ sym (plain 2 (λ x. omega arith) (λ x. omega arith) (λ x. omega arith) (λ x. omega arith) (λ x. omega arith) (λ x. omega arith) h st)
 
-  pub end_settled : (next : State) (r r' : List ℕ) → next ≡ state_after 2 h st → r' ≡ fitted r st.commands (record_of (command_of 2 at 1 h st))
-      → stage (record { st = next; own = none; place = at + 1; got = 0; stop = 255 }) r' ≡ by_change st at (settled st h) r
-  end_settled next r r' en er =
-      pass_end st at h 2 1 e end_total next r r' (between next (at + 1)) en er refl refl
+  pub end_settled : (next : State) (c : Progress) (r r' : List ℕ) → next ≡ state_after 2 h st → c ≡ between next (at + 1)
+      → r' ≡ fitted r st.commands (record_of (command_of 2 at 1 h st)) → stage (stop_with c 255) r' ≡ by_change st at (settled st h) r
+  end_settled next c r r' en ec er =
+      pass_end st at h 2 1 e end_total next r r' c en er ec refl
       ∙ ap (λ (v : Verdict). by_change st at (judged v h) r) (sym end_verdict)
 
 -- a reading with the same numbers

@@ -13,12 +13,13 @@ use Rattle.command.specs.declared.State.{State}
 use Rattle.command.specs.Kinds.{kind_of, total_of, head_of}
 use Rattle.command.specs.Order.{Command}
 use Rattle.command.proofs.Heads.{head_same}
-use Rattle.judge.specs.declared.Verdict.{Verdict}
-use Rattle.judge.specs.declared.Verdict.TheVariants.{Fault, Passed}
-use Rattle.judge.specs.Refusals.{judge_of, header_verdict}
+use Rattle.std.specs.Prelude.{Err}
+use Rattle.chips.specs.Refusals.{number_of_refusal}
+use Rattle.judge.specs.declared.Fault.{Fault}
+use Rattle.judge.specs.Refusals.{Verdict, no_fault, judge_of, header_verdict}
 use Rattle.judge.proofs.Judged.{own_in_total, total_pos}
 use Rattle.progress.specs.declared.Progress.{Progress}
-use Rattle.progress.specs.Steps.{total_in, alone, gathered, Change, fault, unfinished, passes, judged, settled, come, begun, beginning, change_of, between, after_change, whole}
+use Rattle.progress.specs.Steps.{total_in, alone, gathered, Change, fault, faulted, unfinished, passes, judged, settled, come, begun, beginning, change_of, between, after_change, whole}
 use Rattle.progress.specs.Parts.{dwords_left}
 use Rattle.progress.proofs.Gathers.{gathered_all, first_head, gather_all, total_kept}
 
@@ -137,14 +138,14 @@ module _ (st : State) (at : ℕ) where
     first_step ds v e = run_step (between st at) a ds refl ∙ ap (λ (x : Verdict). run_from st at (begun x st a) ds) e
 
     -- LAW: rows 3 and 4 refuse it
-    pub run_refused : (ds : List ℕ) (m s : ℕ) → header_verdict k a t ≡ Fault m s → (m ≡ 0 → ⊥)
-        → run (between st at) (a ∷ ds) ≡ ran [] (after_change st at (fault m s))
+    pub run_refused : (ds : List ℕ) (f : Fault) → header_verdict k a t ≡ Err f → (number_of_refusal f.refusal ≡ 0 → ⊥)
+        → run (between st at) (a ∷ ds) ≡ ran [] (after_change st at (faulted f))
     unfolding after_change
-    run_refused ds m s e n = first_step ds (Fault m s) e ∙ run_stopped (after_change st at (fault m s)) n ds
+    run_refused ds f e n = first_step ds (Err f) e ∙ run_stopped (after_change st at (faulted f)) n ds
 
-    module _ (hp : header_verdict k a t ≡ Passed) where
+    module _ (hp : header_verdict k a t ≡ no_fault) where
       first_held : (ds : List ℕ) → 1 < t → run (between st at) (a ∷ ds) ≡ run (held (alone a) 1) ds
-      first_held ds q = first_step ds Passed hp ∙ run_come (alone a) 1 ds q
+      first_held ds q = first_step ds no_fault hp ∙ run_come (alone a) 1 ds q
 
       pub gathers : (q : List ℕ) → gathered_all st (alone a) 1 q ≡ head q
       gathers q = ap (λ (h : List ℕ). gathered_all st h 1 q) (first_head k a) ∙ gather_all st a q []
@@ -185,7 +186,7 @@ module _ (st : State) (at : ℕ) where
 
       one_whole : (ds : List ℕ) → t ≡ 1 → run (between st at) (a ∷ ds) ≡ run_from st at (end ds) ds
       one_whole ds e =
-          first_step ds Passed hp
+          first_step ds no_fault hp
           ∙ ap (λ (x : Change). run_from st at x ds)
           (come_whole (alone a) 1 (omega arith) ∙ ap (settled st) (first_head k a ∙ head_part ds 0 (omega arith)) ∙ settled_is ds)
 

@@ -7,9 +7,8 @@ use lib.Dec.{T, ltb, leb, eqb}
 use Rattle.laws.proofs.Choices.{by_test}
 use Rattle.command.specs.declared.State.{State}
 use Rattle.command.specs.Kinds.{kind_of, total_of}
-use Rattle.judge.specs.declared.Verdict.{Verdict}
-use Rattle.judge.specs.declared.Verdict.TheVariants.{Fault, Passed}
-use Rattle.judge.specs.Refusals.{judge_of, header_verdict}
+use Rattle.std.specs.Prelude.{Ok, Err}
+use Rattle.judge.specs.Refusals.{Verdict, judge_of, header_verdict}
 use Rattle.judge.proofs.Judged.{judge_header, in_range, fault_number}
 use Rattle.progress.specs.declared.Progress.{Progress}
 use Rattle.progress.specs.Steps.{kind_in, total_in, alone, gathered, Change, fault, unfinished, passes, judged, settled, come, begun, beginning, change_of, at_end, after_change}
@@ -25,8 +24,8 @@ Known (unfinished h g) = Unit
 Known (passes h) = Unit
 
 known_judged : (v : Verdict) (h : List ℕ) → T (in_range v) → Known (judged v h)
-known_judged (Fault m s) h f = f
-known_judged Passed h f = tt
+known_judged (Err e) h f = f
+known_judged (Ok u) h f = tt
 
 known_come : (st : State) (h : List ℕ) (g : ℕ) → Known (come st h g)
 unfolding come
@@ -37,11 +36,11 @@ known_come st h g = go (ltb g (total_in st h))
     go false = known_judged (judge_of (kind_in st h) (total_in st h) h st) h (fault_number (kind_in st h) (total_in st h) h st)
 
 known_begun : (st : State) (d : ℕ) (v : Verdict) → header_verdict (kind_of st.chip d) d (total_of (kind_of st.chip d) d) ≡ v → Known (begun v st d)
-known_begun st d (Fault m s) e =
+known_begun st d (Err f) e =
     let k = kind_of st.chip d in
     let t = total_of k d in
-    subst (λ (x : Verdict). T (in_range x)) (judge_header k t (d ∷ []) st m s e) (fault_number k t (d ∷ []) st)
-known_begun st d Passed e = known_come st (alone d) 1
+    subst (λ (x : Verdict). T (in_range x)) (judge_header k t (d ∷ []) st f e) (fault_number k t (d ∷ []) st)
+known_begun st d (Ok u) e = known_come st (alone d) 1
 
 known_event : (c : Progress) (d : ℕ) → Known (change_of c d)
 unfolding beginning

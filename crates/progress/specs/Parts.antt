@@ -7,7 +7,7 @@ unfoldable pub gathered_in : ℕ → List ℕ → ℕ → List ℕ → List ℕ
 gathered_in most h g [] = h
 gathered_in most h g (d ∷ ds) = gathered_in most (cond (ltb g most) (set h g d) h) (g + 1) ds
 
--- Own dword j after them, where it was x before: `gathered_picks` of proofs/Gathers.antt shows that these are the own dwords above.
+-- Own dword j after them, where it was x before: `made_gathered` of proofs/Gathers.antt shows that these are the own dwords above.
 unfoldable pub picked : ℕ → ℕ → ℕ → ℕ → List ℕ → ℕ
 picked x j most g l = cond (ltb j most) (cond (ltb j g) x (get_or l (j - g) x)) x
 

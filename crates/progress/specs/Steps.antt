@@ -1,12 +1,12 @@
 -- The reading one dword at a time: document 02, Three, "One driver hands over its ring cut at any dword." What a dword that comes changes;
 -- proofs/Fold.antt shows that dword by dword this is the reading of the whole batch (`fold_reading`).
-use Rattle.std.specs.Prelude.{ℕ, ◌+◌, ◌/◌, cond, List, [], ◌∷◌, length, get_or, set, ltb, eqb}
+use Rattle.std.specs.Prelude.{ℕ, ◌+◌, ◌/◌, cond, List, [], ◌∷◌, length, get_or, set, ltb, eqb, Ok, Err}
 use Rattle.command.specs.declared.State.{State}
 use Rattle.command.specs.Kinds.{kind_of, total_of, own_dwords}
 use Rattle.command.specs.Order.{Command, command_of, state_after}
-use Rattle.judge.specs.declared.Verdict.{Verdict}
-use Rattle.judge.specs.declared.Verdict.TheVariants.{Fault, Passed}
-use Rattle.judge.specs.Refusals.{judge_of, header_verdict}
+use Rattle.chips.specs.Refusals.{number_of_refusal}
+use Rattle.judge.specs.declared.Fault.{Fault}
+use Rattle.judge.specs.Refusals.{Verdict, judge_of, header_verdict}
 use Rattle.record.specs.Record.{record_of}
 use Rattle.reading.specs.Reading.{Stop, ended, stopped}
 use Rattle.records.specs.Records.{put_words}
@@ -38,9 +38,12 @@ pub data Change : Type 0 where
   unfinished : List ℕ → ℕ → Change
   passes : List ℕ → Change
 
+abbrev pub faulted : Fault → Change
+faulted f = fault (number_of_refusal f.refusal) f.skip
+
 abbrev pub judged : Verdict → List ℕ → Change
-judged (Fault m s) h = fault m s
-judged Passed h = passes h
+judged (Err f) h = faulted f
+judged (Ok u) h = passes h
 
 -- a whole command is judged, by rows 3 to 9
 abbrev pub settled : State → List ℕ → Change
@@ -53,8 +56,8 @@ come st h g = cond (ltb g (total_in st h)) (unfinished h g) (settled st h)
 
 -- a command's first dword: rows 3 and 4 go by it alone, and a header that they refuse has no total
 abbrev pub begun : Verdict → State → ℕ → Change
-begun (Fault m s) st d = fault m s
-begun Passed st d = come st (alone d) 1
+begun (Err f) st d = faulted f
+begun (Ok u) st d = come st (alone d) 1
 
 unfoldable pub beginning : State → ℕ → Change
 beginning st d = let k = kind_of st.chip d in begun (header_verdict k d (total_of k d)) st d

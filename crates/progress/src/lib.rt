@@ -12,13 +12,14 @@ ghost use Rattle.progress.specs.Parts.{gathered_in, picked, dwords_left, Counts}
 use command::State;
 use command::head::{kind, total};
 use command::states::after;
-use judge::{Verdict, header_verdict, single_verdict};
+use judge::{Fault, header_verdict, single_verdict};
 use record::words;
 use records::put;
+use std::array;
 
 // What the commands passed have set; of the command that is not whole yet, its own dwords that have come (then zeros) and how many of its
 // dwords have come; its place, or the next command's. `stop` is 0 while reading goes on, 255 after END (`place`: the dwords read), else the
-// number of a refusal (`place`: its own).
+// number of a refusal (`place`: its own): a number, since C's carried state has it as one, and `feed` hands back whichever it was given.
 #[derive(Clone, Copy)]
 pub struct Progress {
     pub st: State,
@@ -33,11 +34,9 @@ fn store(records: &mut [u32], i: usize, w: [u32; 16])
     requires { i < 2 ^ 32 }
     ensures { records.new ≡ fitted records.old i w }
 {
-    if records.len() / 16 <= i {
-        return;
+    if i < records.len() / 16 {
+        put(records, i, w);
     }
-    let mut empty: [u8; 0] = [];
-    put(records, &mut empty, i, w);
 }
 
 // Writes the record of the command of kind k at a place, with own dwords h and t dwords in all, where it fits. A function of its own, so
@@ -52,10 +51,7 @@ pub fn write_record(records: &mut [u32], k: u32, h: [u32; 8], at: u32, t: u32, s
 pub fn left_of(t: u32, g: u32) -> u32
     ensures { result ≡ dwords_left t g }
 {
-    if g < t {
-        return t - g;
-    }
-    1
+    t.saturating_sub(g).max(1)
 }
 
 // Own dword j of a command that has `most` of them, of which g have come, after the next n dwords of a chunk from a place on; x before.
@@ -63,16 +59,10 @@ fn pick(x: u32, j: usize, most: usize, g: usize, chunk: &[u32], from: usize, n: 
     requires { (from + n ≤ length chunk.now) × (n ≤ 16384) }
     ensures { result ≡ picked x j most g (take n (drop from chunk.now)) }
 {
-    if most <= j {
-        return x;
+    if j < most && g <= j && j - g < n {
+        return chunk[from + (j - g)];
     }
-    if j < g {
-        return x;
-    }
-    if n <= j - g {
-        return x;
-    }
-    chunk[from + (j - g)]
+    x
 }
 
 // The own dwords h of a command that has `most` of them, of which g have come, with the next n dwords of a chunk from a place on. Inline
@@ -81,16 +71,7 @@ pub fn gather(h: [u32; 8], most: usize, g: usize, chunk: &[u32], from: usize, n:
     requires { (from + n ≤ length chunk.now) × (n ≤ 16384) × (g ≤ 16384) × (most ≤ 8) }
     ensures { result ≡ gathered_in most h g (take n (drop from chunk.now)) }
 {
-    [
-        pick(h[0], 0, most, g, chunk, from, n),
-        pick(h[1], 1, most, g, chunk, from, n),
-        pick(h[2], 2, most, g, chunk, from, n),
-        pick(h[3], 3, most, g, chunk, from, n),
-        pick(h[4], 4, most, g, chunk, from, n),
-        pick(h[5], 5, most, g, chunk, from, n),
-        pick(h[6], 6, most, g, chunk, from, n),
-        pick(h[7], 7, most, g, chunk, from, n),
-    ]
+    array::from_fn(|j| pick(h[j], j, most, g, chunk, from, n))
 }
 
 // Reading goes on in a command that stands at a place, with own dwords h, of which g dwords have come.
@@ -98,11 +79,9 @@ pub fn hold(st: State, at: u32, h: [u32; 8], g: u32) -> Progress
     ensures { result ≡ after_change st at (unfinished h g) }
 {
     Progress {
-        st,
         own: h,
-        place: at,
         got: g,
-        stop: 0,
+        ..open(st, at)
     }
 }
 
@@ -112,11 +91,8 @@ pub fn halt(st: State, at: u32, number: u32, skip: u32) -> Progress
     ensures { result ≡ after_change st at (fault number skip) }
 {
     Progress {
-        st,
-        own: [0, 0, 0, 0, 0, 0, 0, 0],
-        place: at + skip,
-        got: 0,
         stop: number,
+        ..open(st, at + skip)
     }
 }
 
@@ -126,7 +102,7 @@ pub fn open(st: State, at: u32) -> Progress
 {
     Progress {
         st,
-        own: [0, 0, 0, 0, 0, 0, 0, 0],
+        own: [0; 8],
         place: at,
         got: 0,
         stop: 0,
@@ -139,21 +115,19 @@ fn pass(st: State, at: u32, h: [u32; 8], k: u32, t: u32, records: &mut [u32]) ->
     ensures { stage result records.new ≡ by_change st at (passing h) records.old }
 {
     write_record(records, k, h, at, t, st);
-    let mut next = open(after(k, h, st), at + t);
+    let next = open(after(k, h, st), at + t);
     if k == 2 {
-        next.stop = 255;
+        return Progress { stop: 255, ..next };
     }
     next
 }
 
 // Rows 3 to 9 of a whole command of kind k, with own dwords h and t dwords in all.
-fn judge(k: u32, t: u32, h: [u32; 8], st: State) -> Verdict
+fn judge(k: u32, t: u32, h: [u32; 8], st: State) -> Result<(), Fault>
     ensures { result ≡ judge_of k t h st }
 {
-    match header_verdict(k, h[0], t as usize) {
-        Verdict::Fault { number, skip } => Verdict::Fault { number, skip },
-        Verdict::Passed => single_verdict(k, h, st),
-    }
+    header_verdict(k, h[0], t as usize)?;
+    single_verdict(k, h, st)
 }
 
 // END, with own dwords h. Not by `pass`, which would then be a call of its own for every other command too.
@@ -162,13 +136,9 @@ pub fn finish(st: State, at: u32, h: [u32; 8], records: &mut [u32]) -> Progress
     ensures { stage result records.new ≡ by_change st at (settled st h) records.old }
 {
     write_record(records, 2, h, at, 1, st);
-    let next = after(2, h, st);
     Progress {
-        st: next,
-        own: [0, 0, 0, 0, 0, 0, 0, 0],
-        place: at + 1,
-        got: 0,
         stop: 255,
+        ..open(after(2, h, st), at + 1)
     }
 }
 
@@ -182,30 +152,19 @@ pub fn settle(st: State, at: u32, h: [u32; 8], records: &mut [u32]) -> Progress
     let k = kind(chip, d);
     let t = total(k, d);
     match judge(k, t, h, st) {
-        Verdict::Fault { number, skip } => halt(st, at, number, skip),
-        Verdict::Passed => pass(st, at, h, k, t, records),
+        Err(fault) => halt(st, at, fault.refusal.number(), fault.skip),
+        Ok(()) => pass(st, at, h, k, t, records),
     }
 }
 
-// The same numbers once more, one by one. What is handed to `settle`, and what it gives back, goes through memory; a copy made for the call
-// leaves what it is made from in registers.
+// The same numbers once more. What is handed to `settle`, and what it gives back, goes through memory; a copy made for the call leaves what
+// it is made from in registers. Without these a picture in chunks of 64 dwords takes 8% more time.
 pub fn same_state(st: State) -> State
     ensures { result ≡ st }
 {
-    let chip = st.chip;
     State {
-        chip,
-        capacity: st.capacity,
-        earlier_vfe: st.earlier_vfe,
-        vfe_in_force: st.vfe_in_force,
-        vfe_dword1: st.vfe_dword1,
-        vfe_dword2: st.vfe_dword2,
-        vfe_dword3: st.vfe_dword3,
-        vfe_dword4: st.vfe_dword4,
-        count_loaded: st.count_loaded,
-        standing: st.standing,
-        commands: st.commands,
-        objects: st.objects,
+        chip: st.chip,
+        ..st
     }
 }
 
@@ -218,15 +177,10 @@ pub fn same_dwords(h: [u32; 8]) -> [u32; 8]
 pub fn same(c: Progress) -> Progress
     ensures { result ≡ c }
 {
-    let st = c.st;
-    let own = c.own;
-    let state = same_state(st);
-    let dwords = same_dwords(own);
+    let own = same_dwords(c.own);
     Progress {
-        st: state,
-        own: dwords,
-        place: c.place,
-        got: c.got,
-        stop: c.stop,
+        st: same_state(c.st),
+        own,
+        ..c
     }
 }

@@ -8,7 +8,7 @@ use lib.ListN.{length, get_or, take, get_or-append}
 use lib.Seq.{get_or-take, length-take-le}
 use Rattle.chips.specs.declared.Target.{Target}
 use Rattle.words.specs.Dwords.{dwords_of}
-use Rattle.words.proofs.Dwords.{length_dwords}
+use Rattle.words.specs.Lengths.{length_dwords}
 use Rattle.command.specs.Order.{Command}
 use Rattle.reading.specs.Reading.{Stop, ended, Reading, reading_of}
 use Rattle.reading.specs.EndToEnd.{EndToEnd, last, next}

@@ -8,20 +8,19 @@ use lib.Dec.{eqb}
 use Rattle.chips.specs.declared.Chip.TheVariants.{Gen6, Gen7}
 use Rattle.chips.specs.declared.Target.{Target}
 use Rattle.chips.specs.Chips.{target_of}
-use Rattle.judge.specs.declared.Verdict.{Verdict}
-use Rattle.judge.specs.declared.Verdict.TheVariants.{Fault, Passed}
 use Rattle.command.specs.Kinds.{kind_of, head_of}
 use Rattle.command.specs.Order.{Command, state_of}
 use Rattle.command.proofs.Heads.{one_kind}
-use Rattle.judge.specs.Refusals.{judge_of}
+use Rattle.std.specs.Prelude.{Ok, Err}
+use Rattle.judge.specs.Refusals.{Verdict, no_fault, judge_of}
 use Rattle.judge.proofs.Judged.{passed_header, passed_known}
 use Rattle.reading.specs.Reading.{ended, Whole, Reading, reading, and_then, command_at, after_verdict, read, reading_of}
 use Rattle.reading.specs.BothChips.{BothChips}
 
 -- only a command that passes leaves a batch whole
-whole_passed : (v : Verdict) (c : Command) (rest : Reading) → Whole (after_verdict v c rest).stop → v ≡ Passed
-whole_passed (Fault m s) c rest w = absurd w
-whole_passed Passed c rest w = refl
+whole_passed : (v : Verdict) (c : Command) (rest : Reading) → Whole (after_verdict v c rest).stop → v ≡ no_fault
+whole_passed (Err f) c rest w = absurd w
+whole_passed (Ok u) c rest w = refl
 
 -- END, or a command and rests that are one where they are whole
 same_rest : (t : Bool) (c : Command) (end r r' : Reading) → (Whole r.stop → Whole r'.stop → r ≡ r')
@@ -51,7 +50,7 @@ module _ (capacity : ℕ) where
     abbrev here : Target → Reading
     here t = after_verdict (verdict t) (at_command t) (after t (at_command t))
 
-    passed : (t : Target) → Whole (here t).stop → verdict t ≡ Passed
+    passed : (t : Target) → Whole (here t).stop → verdict t ≡ no_fault
     passed t w = whole_passed (verdict t) (at_command t) (after t (at_command t)) w
 
     one_command : Whole (here seven).stop → at_command six ≡ at_command seven
@@ -64,7 +63,7 @@ module _ (capacity : ℕ) where
 
     -- what a command that passes leaves
     abbrev then : Target → Command → Reading
-    then t c = after_verdict Passed c (after t c)
+    then t c = after_verdict no_fault c (after t c)
 
     is_then : (t : Target) → Whole (here t).stop → here t ≡ then t (at_command t)
     is_then t w = ap (λ (v : Verdict). after_verdict v (at_command t) (after t (at_command t))) (passed t w)

@@ -19,7 +19,7 @@ read_count target (d ∷ ds) zero at cs =
     let c = command_at (kind_of target.chip d) (d ∷ ds) at st in
     let h = read_count target ds (c.total - 1) (at + 1) (c ∷ cs) in
     by_verdict_lem (λ (r : Reading). length r.passed ≤ suc (length ds)) (kind_of target.chip d) (judge_of (kind_of target.chip d) (length (d ∷ ds)) c.head st) _ _ _
-    (λ m s e. omega arith) (λ e k. omega arith) (λ e k. omega arith)
+    (λ f e. omega arith) (λ e k. omega arith) (λ e k. omega arith)
 
 -- LAW
 pub passed_count : (target : Target) (b : List ℕ) → length (reading_of target b).passed ≤ length b

@@ -9,8 +9,7 @@ use lib.Dec.{ltb}
 use borrow.Author.Tests.{lt-ltb, le-ltb}
 use Rattle.chips.specs.declared.Target.{Target}
 use Rattle.command.specs.Order.{Command, object_count}
-use Rattle.reading.specs.declared.Scanned.{Scanned}
-use Rattle.reading.specs.declared.Scanned.TheVariants.{Stopped, Ended}
+use Rattle.reading.specs.Decision.{Scanned, Stopped, Ended}
 use Rattle.reading.specs.Reading.{Stop, ended, stopped, Whole, reading_of}
 use Rattle.reading.specs.Decision.{at_stop, decided, decision_of, scanned, scan_of}
 use Rattle.reading.proofs.Decided.{by_decided}

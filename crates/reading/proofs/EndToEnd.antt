@@ -12,24 +12,23 @@ use borrow.Author.Tests.{ltb-true, ltb-false, eq-eqb, ne_eqb}
 use Rattle.chips.specs.declared.Target.{Target}
 use Rattle.laws.proofs.Choices.{by_test, not_both}
 use Rattle.command.specs.declared.State.{State}
-use Rattle.judge.specs.declared.Verdict.{Verdict}
-use Rattle.judge.specs.declared.Verdict.TheVariants.{Fault, Passed}
 use Rattle.command.specs.Kinds.{kind_of, length_field, length_allowed, total_of, head_of}
 use Rattle.command.specs.Order.{Command, state_of, state_after}
-use Rattle.judge.specs.Refusals.{header_verdict, judge_of}
+use Rattle.std.specs.Prelude.{Err}
+use Rattle.chips.specs.Refusals.{number_of_refusal}
+use Rattle.judge.specs.Refusals.{Verdict, no_fault, header_verdict, judge_of}
 use Rattle.command.proofs.Heads.{none_allowed, kind_eight}
 use Rattle.command.proofs.Order.{state_after_lem}
 use Rattle.judge.proofs.Judged.{total_pos, passed_header, passed_length, passed_fits}
 use Rattle.reading.specs.Reading.{Stop, ended, stopped, Reading, reading, and_then, command_at, read, reading_of}
-use Rattle.reading.specs.declared.Turn.TheVariants.{Last, Next}
-use Rattle.reading.specs.Turns.{walk, turned, turn_of}
+use Rattle.reading.specs.Turns.{Last, Next, walk, turned, turn_of}
 use Rattle.reading.specs.Vfes.{command_number}
 use Rattle.reading.specs.EndToEnd.{command_in, verdict_in, Stands, EndToEnd, used_up, faulty, last, next}
 use Rattle.reading.proofs.Verdicts.{by_verdict_lem}
 use Rattle.reading.proofs.Walk.{read_walk, then, turn_at, walk_end}
 
 -- past the table's kinds no length field is allowed
-known_kind : (k d left : ℕ) → header_verdict k d left ≡ Passed → k < 9
+known_kind : (k d left : ℕ) → header_verdict k d left ≡ no_fault → k < 9
 known_kind k d left e =
     by_test (ltb k 9) (ltb-true k 9)
     (λ t. let l = ltb-false k 9 t in
@@ -37,7 +36,7 @@ known_kind k d left e =
     (sym (none_allowed k (λ q. omega arith) (λ q. omega arith) (λ q. omega arith) (λ q. omega arith) (λ q. omega arith) (λ q. omega arith) (length_field d) (omega arith)))))
 
 -- the command at a place, where its verdict lets it pass, stands there
-pub stands_at : (target : Target) (b : List ℕ) (cs : List Command) (at : ℕ) → at < length b → verdict_in target b cs at ≡ Passed
+pub stands_at : (target : Target) (b : List ℕ) (cs : List Command) (at : ℕ) → at < length b → verdict_in target b cs at ≡ no_fault
     → Stands target b cs at (command_in target b cs at)
 unfolding head_of state_of
 stands_at target b cs at p v =
@@ -72,7 +71,7 @@ module _ (target : Target) (b : List ℕ) (cs : List Command) (at d : ℕ) (ds :
   verdict_is : verdict_in target b cs at ≡ verdict
   verdict_is = ap (λ (l : List ℕ). judge_of (kind_of target.chip (get_or l 0 0)) (length l) (head_of (kind_of target.chip (get_or l 0 0)) l) st) e
 
-  stands : verdict ≡ Passed → Stands target b cs at c
+  stands : verdict ≡ no_fault → Stands target b cs at c
   stands v =
       let n = inside in
       subst (Stands target b cs at) (ap (λ (l : List ℕ). command_at (kind_of target.chip (get_or l 0 0)) l at st) e)
@@ -98,7 +97,7 @@ laid target b (d ∷ ds) zero at cs e h =
     let z : at ≡ at + 0 = omega arith in
     let t = total_pos k d in
     by_verdict_lem (λ (r : Reading). EndToEnd target b cs (at + 0) r.passed r.stop) k (verdict target b cs at d ds e) _ _ _
-    (λ m s v. subst (λ (a : ℕ). EndToEnd target b cs a [] (stopped m (at + s))) z
+    (λ f v. subst (λ (a : ℕ). EndToEnd target b cs a [] (stopped (number_of_refusal f.refusal) (at + f.skip))) z
     (faulty (omega arith) (verdict_is target b cs at d ds e ∙ v)))
     (λ v q. subst (λ (a : ℕ). EndToEnd target b cs a (c ∷ []) (ended (at + 1))) z (last (omega arith) (stands target b cs at d ds e v) q))
     (λ v q. let r = read target ds (c.total - 1) (at + 1) (c ∷ cs) in
@@ -137,7 +136,7 @@ module _ (target : Target) (b : List ℕ) (cs : List Command) (at : ℕ) (p : at
     at_last : c.kind ≡ 2 → read target l 0 at cs ≡ reading (c ∷ []) (ended (at + 1))
     unfolding state_of
     at_last q =
-        by_turn Passed s.faultless
+        by_turn no_fault s.faultless
         ∙ ap (λ (t : Bool). then (cond t Last (Next (total_of k (get_or l 0 0)) (state_after k (head_of k l) (state_of target cs)))) l at (state_of target cs))
         (eq-eqb k 2 (same_kind ∙ q))
         ∙ ap (λ (x : Command). reading (x ∷ []) (ended (at + 1))) (sym s.is)
@@ -146,7 +145,7 @@ module _ (target : Target) (b : List ℕ) (cs : List Command) (at : ℕ) (p : at
     unfolding state_of
     at_next n =
         let x = command_in target b cs at in
-        by_turn Passed s.faultless
+        by_turn no_fault s.faultless
         ∙ ap (λ (t : Bool). then (cond t Last (Next (total_of k (get_or l 0 0)) (state_after k (head_of k l) (state_of target cs)))) l at (state_of target cs))
         (ne_eqb k 2 (λ q. n (sym same_kind ∙ q)))
         ∙ ap₂ (λ (y : List ℕ) (z : State). and_then x (walk y 0 (at + x.total) z)) (drop-drop x.total at b) (sym (state_after_lem target x cs))
@@ -156,7 +155,7 @@ module _ (target : Target) (b : List ℕ) (cs : List Command) (at : ℕ) (p : at
 only : (target : Target) (b : List ℕ) {cs : List Command} {at : ℕ} {xs : List Command} {stop : Stop} → EndToEnd target b cs at xs stop
     → read target (drop at b) 0 at cs ≡ reading xs stop
 only target b (used_up {cs}) = read_walk target (drop (length b) b) 0 (length b) cs ∙ walk_end b (length b) (state_of target cs) (omega arith)
-only target b (faulty {cs} {at} {m} {s} p v) = by_turn target b cs at p (Fault m s) v
+only target b (faulty {cs} {at} {f} p v) = by_turn target b cs at p (Err f) v
 only target b (last {cs} {at} {c} p s q) = at_last target b cs at p c s q
 only target b (next {cs} {at} {c} p s n r) = at_next target b cs at p c s n ∙ ap (and_then c) (only target b r)
 

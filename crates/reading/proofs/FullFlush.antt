@@ -6,11 +6,10 @@ use Prim.Native.Nat.{ℕ, ◌+◌}
 use lib.ListN.{length, get_or, drop}
 use Rattle.laws.proofs.Choices.{not_both}
 use Rattle.chips.specs.declared.Target.{Target}
-use Rattle.judge.specs.declared.Verdict.TheVariants.{Passed}
 use Rattle.command.specs.Kinds.{kind_of, head_of}
 use Rattle.command.specs.Order.{Command, media_since_flush, NoStateFlush, state_of, media_stands, media_stands_either}
 use Rattle.command.proofs.Order.{no_state_flush, state_tells}
-use Rattle.judge.specs.Refusals.{scoreboard_only}
+use Rattle.judge.specs.Refusals.{no_fault, scoreboard_only}
 use Rattle.judge.proofs.FullFlush.{still_passes, passed_flushed, before_flushed, passed_before}
 use Rattle.reading.specs.Reading.{Stop, ended, stopped, Whole, Reading, reading, reading_of}
 use Rattle.reading.specs.EndToEnd.{command_in, verdict_in, EndToEnd, used_up, faulty}
@@ -26,13 +25,13 @@ module _ (target : Target) (b : List ℕ) (cs : List Command) (at : ℕ) where
   abbrev k : ℕ
   k = kind_of target.chip (get_or l 0 0)
 
-  still_faultless : verdict_by_full_flush target b cs at ≡ Passed → verdict_in target b cs at ≡ Passed
+  still_faultless : verdict_by_full_flush target b cs at ≡ no_fault → verdict_in target b cs at ≡ no_fault
   still_faultless = still_passes k (length l) (head_of k l) (state_of target cs)
 
-  was_flushed : verdict_by_full_flush target b cs at ≡ Passed → k ≡ 3 → media_since_flush cs ≡ false
+  was_flushed : verdict_by_full_flush target b cs at ≡ no_fault → k ≡ 3 → media_since_flush cs ≡ false
   was_flushed e q = sym (state_tells target cs).media ∙ before_flushed k (length l) (head_of k l) (state_of target cs) e q
 
-  faultless_before : verdict_in target b cs at ≡ Passed → (k ≡ 3 → media_since_flush cs ≡ false) → verdict_by_full_flush target b cs at ≡ Passed
+  faultless_before : verdict_in target b cs at ≡ no_fault → (k ≡ 3 → media_since_flush cs ≡ false) → verdict_by_full_flush target b cs at ≡ no_fault
   faultless_before e p = passed_before k (length l) (head_of k l) (state_of target cs) e (λ q. (state_tells target cs).media ∙ p q)
 
 still_laid : (target : Target) (b : List ℕ) {cs : List Command} {at : ℕ} {xs : List Command} {d : ℕ} → PassedByFullFlush target b cs at xs d
@@ -52,7 +51,7 @@ dwords_of (stopped m p) = 0
 laid_before : (target : Target) (b : List ℕ) {cs : List Command} {at : ℕ} {xs : List Command} {stop : Stop} → EndToEnd target b cs at xs stop
     → (d : ℕ) → stop ≡ ended d → FullyFlushed cs xs → PassedByFullFlush target b cs at xs d
 laid_before target b (used_up {cs}) d e f = absurd (subst Whole (sym e) tt)
-laid_before target b (faulty {cs} {at} {m} {s} p v) d e f = absurd (subst Whole (sym e) tt)
+laid_before target b (faulty {cs} {at} p v) d e f = absurd (subst Whole (sym e) tt)
 laid_before target b (laid.last {cs} {at} {c} p s q) d e f =
     let k : (command_in target b cs at).kind ≡ c.kind = ap (λ (x : Command). x.kind) (sym s.is) in
     subst₂ (λ (x : Command) (n : ℕ). PassedByFullFlush target b cs at (x ∷ []) n) (sym s.is) (ap dwords_of e)
@@ -69,7 +68,7 @@ one_flush true true only p e = absurd (not_both true refl e)
 one_flush true false only p e = sym p
 one_flush false either only p e = refl
 
-flushed_at : (target : Target) (b : List ℕ) (cs : List Command) (at : ℕ) → verdict_in target b cs at ≡ Passed → NoStateFlush cs
+flushed_at : (target : Target) (b : List ℕ) (cs : List Command) (at : ℕ) → verdict_in target b cs at ≡ no_fault → NoStateFlush cs
     → kind_of target.chip (get_or (drop at b) 0 0) ≡ 3 → media_since_flush cs ≡ false
 flushed_at target b cs at e n q =
     let l = drop at b in

@@ -11,7 +11,8 @@ use borrow.Author.Tests.{ltb-true, ltb-false}
 use Rattle.chips.specs.declared.Target.{Target}
 use Rattle.laws.proofs.Choices.{by_test}
 use Rattle.words.specs.Dwords.{le_at, dwords_of}
-use Rattle.words.proofs.Dwords.{length_dwords, get_or_dwords}
+use Rattle.words.specs.Lengths.{length_dwords}
+use Rattle.words.proofs.Dwords.{get_or_dwords}
 use Rattle.command.specs.Order.{Command}
 use Rattle.reading.specs.Reading.{Stop, Reading, reading_of}
 use Rattle.reading.specs.EndToEnd.{EndToEnd}

@@ -14,8 +14,7 @@ use Rattle.command.specs.Kinds.{length_allowed, kind_of, total_of, head_of}
 use Rattle.command.specs.Order.{state_after}
 use Rattle.judge.specs.Refusals.{header_verdict}
 use Rattle.judge.proofs.Vouching.{no_op_vouches, or_left, or_right}
-use Rattle.reading.specs.declared.Step.{Step}
-use Rattle.reading.specs.declared.Step.TheVariants.{Fault, End, On}
+use Rattle.reading.specs.declared.Place.{Place}
 use Rattle.reading.specs.Turns.{scan_from, Header, stands_at, Same, NoOps}
 use Rattle.reading.proofs.Steps.{stands_as, again_scan}
 
@@ -101,8 +100,6 @@ four_there b at L w₀ w₁ w₂ w₃ t el q e₀ e₁ e₂ e₃ et e = record {
     each (suc (suc (suc (suc j)))) p = absurd (omega arith)
 
 -- from where several lead, the same is found
-pub same_from : (b : List ℕ) (from : ℕ) (st : State) (at : ℕ) (s : State) (r : Step) → from ≤ at → scan_from b at s ≡ scan_from b from st → Same b at s r
+pub same_from : (b : List ℕ) (from : ℕ) (st : State) (at : ℕ) (s : State) (r : Place) → from ≤ at → scan_from b at s ≡ scan_from b from st → Same b at s r
     → Same b from st r
-same_from b from st at s (Fault m x) q e o = absurd o
-same_from b from st at s End q e o = absurd o
-same_from b from st at s (On to s') q e o = let z = o.1 in (o.0 ∙ e, omega arith, o.2)
+same_from b from st at s r q e o = let z = o.1 in (o.0 ∙ e, omega arith, o.2)

@@ -8,11 +8,10 @@ use mathlib.Core.List.{List, [], ◌∷◌}
 use lib.ListN.{length, get_or}
 use Rattle.chips.specs.declared.Target.{Target}
 use Rattle.command.specs.declared.State.{State}
-use Rattle.judge.specs.declared.Verdict.{Verdict}
-use Rattle.judge.specs.declared.Verdict.TheVariants.{Passed}
 use Rattle.command.specs.Kinds.{kind_of, total_of, head_of, own_dwords}
 use Rattle.command.specs.Order.{Command, command_of, state_of, state_after}
-use Rattle.judge.specs.Refusals.{judge_of}
+use Rattle.chips.specs.Refusals.{number_of_refusal}
+use Rattle.judge.specs.Refusals.{Verdict, no_fault, judge_of}
 use Rattle.command.proofs.Heads.{own_pos, own_object, own_end, head_same}
 use Rattle.judge.proofs.Judged.{own_in_total, passed_header, total_pos}
 use Rattle.reading.specs.Turns.{walk}
@@ -50,7 +49,7 @@ unread_from (d ∷ ds) zero at st i u =
     let k = kind_of st.chip d in
     let c = command_at k (d ∷ ds) at st in
     by_verdict_lem (λ (r : Reading). Unread r i → at + 0 ≤ i) k (judge_of k (suc (length ds)) (head_of k (d ∷ ds)) st) _ _ _
-    (λ m s e w. absurd (none_unread m (at + s) i w))
+    (λ f e w. absurd (none_unread (number_of_refusal f.refusal) (at + f.skip) i w))
     (λ e q w. ⊎_elim (λ (x : InlineData c i). let z = x.1 in omega arith) (λ x. omega arith) (unread_end c (at + 1) i w))
     (λ e q w. ⊎_elim (λ (x : InlineData c i). let z = x.1 in omega arith)
     (λ x. let z = unread_from ds (total_of k d - 1) (at + 1) (state_after k (head_of k (d ∷ ds)) st) i x in omega arith) (unread_then c (rest d ds at st) i w))
@@ -69,10 +68,10 @@ module _ (d : ℕ) (ds : List ℕ) (at : ℕ) (st : State) where
       let e : own_dwords k ≡ 6 = ap own_dwords u.0 ∙ own_object in
       let q = u.1 in omega arith
 
-  own_read : (v : Verdict) → (v ≡ Passed → own_dwords k ≤ total_of k d) → (j : ℕ) → j < own_dwords k → Unread (after_verdict v c (rest d ds at st)) (at + j) → ⊥
+  own_read : (v : Verdict) → (v ≡ no_fault → own_dwords k ≤ total_of k d) → (j : ℕ) → j < own_dwords k → Unread (after_verdict v c (rest d ds at st)) (at + j) → ⊥
   own_read v h j p =
       by_verdict_lem (λ (r : Reading). Unread r (at + j) → ⊥) k v _ _ _
-      (λ m s e. none_unread m (at + s) (at + j))
+      (λ f e. none_unread (number_of_refusal f.refusal) (at + f.skip) (at + j))
       (λ e q u. ⊎_elim (own_inline j p) (λ x. let y : own_dwords k ≡ 1 = ap own_dwords q ∙ own_end in omega arith) (unread_end c (at + 1) (at + j) u))
       (λ e q u. ⊎_elim (own_inline j p) (λ x. after (h e) x) (unread_then c (rest d ds at st) (at + j) u))
     where
@@ -93,7 +92,7 @@ module _ (ds ds' : List ℕ) (c : Command) (r r' : Reading) (pos : 1 ≤ c.total
 
   same_verdict : (v : Verdict) → Agree (after_verdict v c r) → after_verdict v c r ≡ after_verdict v c r'
   same_verdict v =
-      by_verdicts (λ (x y : Reading). Agree x → x ≡ y) c.kind v _ _ _ _ _ _ (λ m s e h. refl) (λ e q h. refl)
+      by_verdicts (λ (x y : Reading). Agree x → x ≡ y) c.kind v _ _ _ _ _ _ (λ f e h. refl) (λ e q h. refl)
       (λ e q h. ap (and_then c) (ih (λ i p u. h i p (λ w. not_unread i p u (unread_then c r (c.place + suc i) w)))))
 
 -- two lists that start with one command
@@ -103,7 +102,7 @@ module _ (d : ℕ) (ds : List ℕ) (d' : ℕ) (ds' : List ℕ) (at : ℕ) (st : 
   abbrev verdict : Verdict
   verdict = judge_of (kind_of st.chip d) (suc (length ds)) (head_of (kind_of st.chip d) (d ∷ ds)) st
 
-  own_passed : verdict ≡ Passed → own_dwords (kind_of st.chip d) ≤ total_of (kind_of st.chip d) d
+  own_passed : verdict ≡ no_fault → own_dwords (kind_of st.chip d) ≤ total_of (kind_of st.chip d) d
   unfolding head_of
   own_passed p = own_in_total (kind_of st.chip d) d (suc (length ds)) (passed_header (kind_of st.chip d) (suc (length ds)) (head_of (kind_of st.chip d) (d ∷ ds)) st p)
 

@@ -7,39 +7,29 @@ use native.Mathlib.Omega.{arith}
 use mathlib.Core.List.{List, ◌∷◌}
 use lib.ListN.{length, get_or, drop}
 use lib.Seq.{drop-cons}
-use lib.Dec.{ltb, eqb}
-use borrow.Author.Tests.{ltb-false, eqb-true, not-true, lt-ltb, le-ltb}
+use lib.Dec.{ltb, leb, eqb}
+use borrow.Author.Tests.{ltb-false, eqb-true, not-true, lt-leb, lt-ltb, le-ltb}
 use Rattle.laws.proofs.Choices.{and_left, and_right}
 use Rattle.chips.specs.declared.Chip.{Chip}
 use Rattle.command.specs.declared.State.{State}
-use Rattle.judge.specs.declared.Verdict.TheVariants.{Passed}
+use Rattle.chips.specs.Refusals.{number_of_refusal}
 use Rattle.command.specs.Kinds.{kind_of, total_of, head_of, own_dwords}
 use Rattle.command.specs.Order.{state_after}
 use Rattle.command.proofs.Order.{after_chip}
-use Rattle.judge.specs.Refusals.{header_verdict, own_verdict, judge_of, Vouches}
+use Rattle.judge.specs.Refusals.{no_fault, header_verdict, own_verdict, judge_of, Vouches}
 use Rattle.judge.proofs.Judged.{passed_header, header_fits, own_fits_left, total_pos}
-use Rattle.reading.specs.declared.Scanned.{Scanned}
-use Rattle.reading.specs.declared.Scanned.TheVariants.{Stopped, Ended}
-use Rattle.reading.specs.declared.Turn.{Turn}
-use Rattle.reading.specs.declared.Turn.TheVariants.{Refused, Last, Next}
-use Rattle.reading.specs.declared.Step.{Step}
-use Rattle.reading.specs.declared.Step.TheVariants.{Fault, End, On}
-use Rattle.reading.specs.Turns.{turn_of, scan_from, Within, step_of, found_by, Beyond, Steps, Header, stands_at, Ready, Same, Onward}
+use Rattle.reading.specs.Decision.{Scanned, Stopped, Ended}
+use Rattle.reading.specs.Turns.{Turn, Refused, Last, Next}
+use Rattle.std.specs.Prelude.{Some, None, Ok, Err}
+use Rattle.judge.specs.declared.Fault.{Fault}
+use Rattle.reading.specs.declared.Halt.{Halt}
+use Rattle.reading.specs.declared.Halt.TheVariants.{Faulty, End}
+use Rattle.reading.specs.declared.Place.{Place}
+use Rattle.reading.specs.Turns.{Step}
+use Rattle.reading.specs.Turns.{turn_of, scan_from, Within, step_of, found_by, Beyond, Steps, Header, stands_at, Same}
 use Rattle.reading.proofs.Verdicts.{by_verdict_lem}
 use Rattle.reading.proofs.Turns.{turn_next}
 use Rattle.reading.proofs.Scans.{next_bounds, next_less, next_in, next_commands, next_objects, scan_refused, scan_last, scan_next}
-
--- a turn as a step
-pub step_refused : (at m s : ℕ) (w : Turn) → w ≡ Refused m s → Fault m s ≡ step_of at w
-step_refused at m s w e = ap (step_of at) (sym e)
-
-pub step_last : (at : ℕ) (w : Turn) → w ≡ Last → End ≡ step_of at w
-step_last at w e = ap (step_of at) (sym e)
-
-pub step_next : (at t : ℕ) (s : State) (w : Turn) → w ≡ Next t s → On (at + t) s ≡ step_of at w
-step_next at t s w e = ap (step_of at) (sym e)
-
-pub ruleset step_laws = (step_refused, step_last, step_next)
 
 -- a command with first dword d stands at a place
 module _ (b : List ℕ) (at t d : ℕ) (r : Bool) (er : r ≡ stands_at b at t d) (y : r ≡ true) where
@@ -63,13 +53,16 @@ pub stands_as : (b : List ℕ) (L at t d w : ℕ) → L ≡ length b → t ≤ L
 unfolding stands_at
 stands_as b L at t d w el p e = simp (le-ltb (length b - at) t (omega arith), e)
 
+pub stands_under : (b : List ℕ) (L at t d : ℕ) → L ≡ length b → L - at < t → leb t (L - at) ≡ stands_at b at t d
+stands_under b L at t d el p = lt-leb t (L - at) p ∙ stands_not b L at t d el p
+
 pub total_one : (k d t : ℕ) → t ≡ total_of k d → 1 ≤ t
 total_one k d t e = let p = total_pos k d in omega arith
 
 -- one command more with the same first dword
 module _ (b : List ℕ) (L k d at t : ℕ) (c : Chip) (r : Bool) (el : L ≡ length b) (hd : Header c k d) (et : t ≡ total_of k d) (er : r ≡ stands_at b at t d)
     (y : r ≡ true) (q : at ≤ L) where
-  there : header_verdict k d (L - at) ≡ Passed
+  there : header_verdict k d (L - at) ≡ no_fault
   there = let z = stands_fits b at t d r er y in header_fits k d (total_of k d) (L - at) hd.allowed (omega arith)
 
   inside : at < L
@@ -108,7 +101,7 @@ pub ruleset again_laws = (again_less, again_in, again_commands, again_objects, a
 
 -- a turn that goes on is at a command whose first dword rows 3 and 4 let pass
 abbrev HeaderOf : Chip → ℕ → ℕ → Turn → Type 0
-HeaderOf c k d (Refused m s) = Unit
+HeaderOf c k d (Refused f) = Unit
 HeaderOf c k d Last = Unit
 HeaderOf c k d (Next t s) = Header c k d × (s.chip ≡ c)
 
@@ -117,7 +110,7 @@ unfolding turn_of head_of
 header_of d ds st =
     let k = kind_of st.chip d in
     let h = head_of k (d ∷ ds) in
-    by_verdict_lem (HeaderOf st.chip k d) k (judge_of k (suc (length ds)) h st) _ _ _ (λ m s e. tt) (λ e q. tt)
+    by_verdict_lem (HeaderOf st.chip k d) k (judge_of k (suc (length ds)) h st) _ _ _ (λ f e. tt) (λ e q. tt)
     (λ e q. (
       record { kind = refl; goes = q; allowed = header_fits k d (suc (length ds)) (total_of k d) (passed_header k (suc (length ds)) h st e) (le_refl (total_of k d)) },
       after_chip k h st,
@@ -135,22 +128,10 @@ turn_header b at st t s d k n p ed ek en e =
     let g : Header st.chip n d = subst (λ (x : ℕ). Header st.chip x d) (sym ek ∙ en) (subst (λ (x : ℕ). Header st.chip (kind_of st.chip x) x) (sym ed) h.0) in
     subst (λ (c : Chip). Header c n d) (sym h.1) g
 
--- w is the turn at a place, by the code; n the kind k of its first dword d, which it found
+-- w is the turn at a place, by the code
 module _ (b : List ℕ) (L at : ℕ) (st : State) (w : Turn) (el : L ≡ length b) (p : at < L) (i : Within b at st) (ew : w ≡ turn_of (drop at b) st) where
-  module _ (d k n : ℕ) (ed : d ≡ get_or b at 0) (ek : k ≡ kind_of st.chip d) (en : k ≡ n) where
-    ready_turn : (v : Turn) → w ≡ v → Ready b n d (step_of at v)
-    ready_turn (Refused m s) e = tt
-    ready_turn Last e = tt
-    ready_turn (Next t s) e = (
-      (next_in b L el at st w t s p ew e, next_commands b L el at st w t s p ew e i.1, next_objects b L el at st w t s p ew e i.2),
-      turn_header b at st t s d k n (omega arith) ed ek en (sym ew ∙ e),
-    )
-
-    pub turn_ready : (first : Step) → first ≡ step_of at w → Ready b n d first
-    turn_ready first e = subst (Ready b n d) (sym e) (ready_turn w refl)
-
   steps_turn : (v : Turn) → w ≡ v → Steps b at st (step_of at v)
-  steps_turn (Refused m s) e = (scan_refused (scan_from b at st) b L el at st w p refl ew m s e, tt)
+  steps_turn (Refused f) e = (scan_refused (scan_from b at st) b L el at st w p refl ew f e, tt)
   steps_turn Last e = (scan_last (scan_from b at st) b L el at st w p refl ew e, tt)
   steps_turn (Next t s) e =
       let z = next_bounds b L el at st w t s p ew e in (
@@ -158,67 +139,66 @@ module _ (b : List ℕ) (L at : ℕ) (st : State) (w : Turn) (el : L ≡ length 
         (omega arith, (next_in b L el at st w t s p ew e, next_commands b L el at st w t s p ew e i.1, next_objects b L el at st w t s p ew e i.2)),
       )
 
-  pub steps_one : (r : Step) → r ≡ step_of at w → Steps b at st r
-  steps_one r e = subst (Steps b at st) (sym e) (steps_turn w refl)
+-- a step is that of one turn
+module _ (b : List ℕ) (at : ℕ) (st : State) (p : at < length b) (i : Within b at st) (r : Step) (er : r ≡ step_of at (turn_of (drop at b) st)) where
+  -- LAW: a step over one command
+  pub steps_one : Steps b at st r
+  steps_one = subst (Steps b at st) (sym er) (steps_turn b (length b) at st (turn_of (drop at b) st) refl p i refl (turn_of (drop at b) st) refl)
 
-  onward : (first r : Step) → Steps b at st first → Onward b first r → Steps b at st r
-  onward (Fault m s) r z o = subst (Steps b at st) (sym o) z
-  onward End r z o = subst (Steps b at st) (sym o) z
-  onward (On a s) (Fault m x) z o = absurd o
-  onward (On a s) End z o = absurd o
-  onward (On a s) (On to s') z o = (o.0 ∙ z.0, (omega arith, o.2))
+  -- one that goes no further does so as the code hands it on
+  pub steps_halt : (h : Halt) (r' : Step) → r ≡ Err h → r' ≡ Err h → Steps b at st r'
+  steps_halt h r' e e' = subst (Steps b at st) (e ∙ sym e') steps_one
 
-  -- LAW: a step over one or more commands
-  pub steps_onward : (first r : Step) → first ≡ step_of at w → Onward b first r → Steps b at st r
-  steps_onward first r e o = onward first r (steps_one first e) o
+  module _ (q : Place) (e : r ≡ Ok q) where
+    went : (scan_from b q.at q.st ≡ scan_from b at st) × (at + 1 ≤ q.at) × Within b q.at q.st
+    went = let z = subst (Steps b at st) e steps_one in (z.0, z.1.0, z.1.1)
 
-pub ruleset steps_laws = (steps_one, steps_onward)
+    pub step_within : Within b q.at q.st
+    step_within = went.2
 
--- where a step goes on
-pub ready_within : (b : List ℕ) (k d : ℕ) (first : Step) (at : ℕ) (st : State) → Ready b k d first → first ≡ On at st → Within b at st
-ready_within b k d first at st h e = (subst (Ready b k d) e h).0
+    -- the commands after it may be those of the same header, where k is the kind of the first dword d
+    pub step_header : (d k : ℕ) → d ≡ get_or b at 0 → k ≡ kind_of st.chip d → Header q.st.chip k d
+    step_header d k ed ek = header_in (turn_of (drop at b) st) refl (sym er ∙ e)
+      where
+        header_in : (v : Turn) → turn_of (drop at b) st ≡ v → step_of at v ≡ Ok q → Header q.st.chip k d
+        header_in (Refused f) x h = let z : ◌≡◌ {A = ℕ} 0 1 = cc in absurd (omega arith)
+        header_in Last x h = let z : ◌≡◌ {A = ℕ} 0 1 = cc in absurd (omega arith)
+        header_in (Next t s) x h =
+            let z : s ≡ q.st = cc in subst (λ (y : State). Header y.chip k d) z (turn_header b at st t s d k k p ed ek refl x)
 
-pub ready_header : (b : List ℕ) (k d : ℕ) (first : Step) (at : ℕ) (st : State) → Ready b k d first → first ≡ On at st → Header st.chip k d
-ready_header b k d first at st h e = (subst (Ready b k d) e h).1
+    -- LAW: a step over one command, then on over those that start alike
+    pub steps_on : (z : Place) → Same b q.at q.st z → Steps b at st (Ok z)
+    steps_on z o = (o.0 ∙ went.0, (let y = went.1 in omega arith, o.2))
 
-pub onward_fault : (b : List ℕ) (first : Step) (m s : ℕ) → first ≡ Fault m s → Onward b first (Fault m s)
-onward_fault b first m s e = subst (λ (x : Step). Onward b x (Fault m s)) (sym e) refl
-
-pub onward_end : (b : List ℕ) (first : Step) → first ≡ End → Onward b first End
-onward_end b first e = subst (λ (x : Step). Onward b x End) (sym e) refl
-
-pub onward_on : (b : List ℕ) (first : Step) (at : ℕ) (st : State) (r : Step) → first ≡ On at st → Same b at st r → Onward b first r
-onward_on b first at st r e h = subst (λ (x : Step). Onward b x r) (sym e) h
-
-pub ruleset onward_laws = (onward_fault, onward_end, onward_on)
+pub ruleset steps_laws = (steps_one, steps_halt, steps_on)
 
 -- what a step shows, by its case
 module _ (b : List ℕ) (at : ℕ) (st : State) (r : Step) (h : Steps b at st r) where
   -- y is what is left to find, and x what is found in all
   module _ (x y : Scanned) (inv : scan_from b at st ≡ y) (whole : y ≡ x) where
-    pub found_fault : (m s : ℕ) → r ≡ Fault m s → Stopped m (at + s) ≡ x
-    found_fault m s e = ap (found_by b at st) (sym e) ∙ h.0 ∙ inv ∙ whole
+    pub found_fault : (f : Fault) → r ≡ Err (Faulty f) → Stopped (number_of_refusal f.refusal) (at + f.skip) ≡ x
+    found_fault f e = ap (found_by b at st) (sym e) ∙ h.0 ∙ inv ∙ whole
 
-    pub found_end : r ≡ End → Ended (st.commands + 1) (at + 1) st.objects ≡ x
+    pub found_end : r ≡ Err End → Ended (st.commands + 1) (at + 1) st.objects ≡ x
     found_end e = ap (found_by b at st) (sym e) ∙ h.0 ∙ inv ∙ whole
 
-    pub found_on : (to : ℕ) (s : State) → r ≡ On to s → scan_from b to s ≡ x
-    found_on to s e = ap (found_by b at st) (sym e) ∙ h.0 ∙ inv ∙ whole
+    pub found_on : (q : Place) → r ≡ Ok q → scan_from b q.at q.st ≡ x
+    found_on q e = ap (found_by b at st) (sym e) ∙ h.0 ∙ inv ∙ whole
 
-  module _ (to : ℕ) (s : State) (e : r ≡ On to s) where
-    goes : (at + 1 ≤ to) × Within b to s
+  module _ (q : Place) (e : r ≡ Ok q) where
+    goes : (at + 1 ≤ q.at) × Within b q.at q.st
     goes = subst (Beyond b (at + 1)) e h.1
 
-    pub on_less : length b - to < length b - at
+    pub on_less : length b - q.at < length b - at
     on_less = let z = goes.0 in let y = goes.1.0 in omega arith
 
-    pub on_in : to ≤ length b
+    pub on_in : q.at ≤ length b
     on_in = goes.1.0
 
-    pub on_commands : s.commands ≤ to
+    pub on_commands : q.st.commands ≤ q.at
     on_commands = goes.1.1
 
-    pub on_objects : s.objects ≤ to
+    pub on_objects : q.st.objects ≤ q.at
     on_objects = goes.1.2
 
 pub ruleset found_laws = (found_fault, found_end, found_on)

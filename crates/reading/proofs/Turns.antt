@@ -10,14 +10,15 @@ use lib.Seq.{get_or-drop}
 use lib.Dec.{eqb}
 use borrow.Author.Tests.{eq-eqb, ne_eqb}
 use Rattle.command.specs.declared.State.{State}
-use Rattle.judge.specs.declared.Verdict.{Verdict}
-use Rattle.judge.specs.declared.Verdict.TheVariants.{Fault, Passed}
 use Rattle.command.specs.Kinds.{kind_of, total_of, head_of, own_dwords}
 use Rattle.command.specs.Order.{state_after}
-use Rattle.judge.specs.Refusals.{header_verdict, own_verdict, judge_of}
+use Rattle.std.specs.Prelude.{None, Ok, Err}
+use Rattle.judge.specs.declared.Fault.{Fault}
+use Rattle.judge.specs.Refusals.{Verdict, no_fault, header_verdict, own_verdict, judge_of}
 use Rattle.judge.proofs.Judged.{judge_own, judge_header, own_fits_left}
-use Rattle.reading.specs.declared.Turn.TheVariants.{Refused, Last, Next}
-use Rattle.reading.specs.Turns.{turned, turn_of}
+use Rattle.reading.specs.declared.Halt.TheVariants.{Faulty, End}
+use Rattle.reading.specs.Turns.{Refused, Last, Next}
+use Rattle.reading.specs.Turns.{Step, on, step_of, turned, turn_of}
 
 -- d and k are the first dword at a place and its kind, L the dwords of the batch, w the verdict on the header, as the code has them
 module _ (b : List ℕ) (L at d k : ℕ) (st : State) (w : Verdict) (el : L ≡ length b) (ed : d ≡ get_or b at 0) (ek : k ≡ kind_of st.chip d) (ew : w ≡ header_verdict k d (L - at)) where
@@ -41,30 +42,44 @@ module _ (b : List ℕ) (L at d k : ℕ) (st : State) (w : Verdict) (el : L ≡ 
   header_is : header_verdict k (get_or (head_of k (drop at b)) 0 0) (L - at) ≡ w
   header_is = ap (λ (x : ℕ). header_verdict k x (L - at)) head_first ∙ sym ew
 
-  pub turn_header : (m s : ℕ) → w ≡ Fault m s → Refused m s ≡ turn_of (drop at b) st
-  turn_header m s e =
-      sym (turn_is ∙ ap (λ (v : Verdict). turned v k (drop at b) st) (judge_header k (L - at) (head_of k (drop at b)) st m s (header_is ∙ e)))
+  pub turn_header : (f : Fault) → w ≡ Err f → Refused f ≡ turn_of (drop at b) st
+  turn_header f e =
+      sym (turn_is ∙ ap (λ (v : Verdict). turned v k (drop at b) st) (judge_header k (L - at) (head_of k (drop at b)) st f (header_is ∙ e)))
 
-  module _ (h : List ℕ) (v : Verdict) (eh : h ≡ head_of k (drop at b)) (ev : v ≡ own_verdict k h st) (p : w ≡ Passed) where
+  module _ (h : List ℕ) (v : Verdict) (eh : h ≡ head_of k (drop at b)) (ev : v ≡ own_verdict k h st) (p : w ≡ no_fault) where
     own_is : judge_of k (L - at) (head_of k (drop at b)) st ≡ v
     own_is = judge_own k (L - at) (head_of k (drop at b)) st (header_is ∙ p) ∙ ap (λ (x : List ℕ). own_verdict k x st) (sym eh) ∙ sym ev
 
-    pub turn_own : (m s : ℕ) → v ≡ Fault m s → Refused m s ≡ turn_of (drop at b) st
-    turn_own m s e = sym (turn_is ∙ ap (λ (v : Verdict). turned v k (drop at b) st) (own_is ∙ e))
+    pub turn_own : (f : Fault) → v ≡ Err f → Refused f ≡ turn_of (drop at b) st
+    turn_own f e = sym (turn_is ∙ ap (λ (v : Verdict). turned v k (drop at b) st) (own_is ∙ e))
 
-    turn_passed : v ≡ Passed → turn_of (drop at b) st ≡ cond (eqb k 2) Last (Next (total_of k d) (state_after k h st))
+    turn_passed : v ≡ no_fault → turn_of (drop at b) st ≡ cond (eqb k 2) Last (Next (total_of k d) (state_after k h st))
     turn_passed e =
         turn_is ∙ ap (λ (v : Verdict). turned v k (drop at b) st) (own_is ∙ e)
         ∙ ap₂ (λ (x : ℕ) (y : List ℕ). cond (eqb k 2) Last (Next (total_of k x) (state_after k y st))) first (sym eh)
 
-    pub turn_last : v ≡ Passed → k ≡ 2 → Last ≡ turn_of (drop at b) st
+    pub turn_last : v ≡ no_fault → k ≡ 2 → Last ≡ turn_of (drop at b) st
     turn_last e q = rw (turn_passed e) (simp (eq-eqb k 2 q))
 
-    pub turn_next : (t : ℕ) (s : State) → v ≡ Passed → (k ≡ 2 → ⊥) → t ≡ total_of k d → s ≡ state_after k h st → Next t s ≡ turn_of (drop at b) st
+    pub turn_next : (t : ℕ) (s : State) → v ≡ no_fault → (k ≡ 2 → ⊥) → t ≡ total_of k d → s ≡ state_after k h st → Next t s ≡ turn_of (drop at b) st
     turn_next t s e q et es = rw (turn_passed e) (simp (ne_eqb k 2 q) (ap₂ Next et es))
 
+  -- the same as a step
+  pub step_header : (f : Fault) (r : Step) → w ≡ Err f → r ≡ Err (Faulty f) → r ≡ step_of at (turn_of (drop at b) st)
+  step_header f r e er = er ∙ ap (step_of at) (turn_header f e)
+
+  module _ (h : List ℕ) (v : Verdict) (eh : h ≡ head_of k (drop at b)) (ev : v ≡ own_verdict k h st) (u : Unit) (p : w ≡ Ok u) where
+    pub step_own : (f : Fault) (r : Step) → v ≡ Err f → r ≡ Err (Faulty f) → r ≡ step_of at (turn_of (drop at b) st)
+    step_own f r e er = er ∙ ap (step_of at) (turn_own h v eh ev p f e)
+
+    pub step_last : (u' : Unit) → v ≡ Ok u' → k ≡ 2 → Err End ≡ step_of at (turn_of (drop at b) st)
+    step_last u' e q = ap (step_of at) (turn_last h v eh ev p e q)
+
+    pub step_next : (u' : Unit) (t : ℕ) (s : State) → v ≡ Ok u' → (k ≡ 2 → ⊥) → t ≡ total_of k d → s ≡ state_after k h st → on (at + t) s ≡ step_of at (turn_of (drop at b) st)
+    step_next u' t s e q et es = ap (step_of at) (turn_next h v eh ev p t s e q et es)
+
   -- the own dwords are there
-  pub own_there : w ≡ Passed → at < L → at + own_dwords k ≤ length b
+  pub own_there : w ≡ no_fault → at < L → at + own_dwords k ≤ length b
   own_there p l = let z = own_fits_left k d (L - at) (sym ew ∙ p) in omega arith
 
-pub ruleset turns = (turn_header, turn_own, turn_last, turn_next)
+pub ruleset turns = (step_header, step_own, step_last, step_next)

@@ -11,11 +11,9 @@ use lib.ListN.{length}
 use lib.Dec.{eqb}
 use borrow.Author.Tests.{eqb-true, eqb-false}
 use Rattle.command.specs.declared.State.{State}
-use Rattle.judge.specs.declared.Verdict.{Verdict}
-use Rattle.judge.specs.declared.Verdict.TheVariants.{Passed}
 use Rattle.command.specs.Kinds.{kind_of}
 use Rattle.command.specs.Order.{Command, stands_since, earlier_vfe, vfe_in_force, state_of}
-use Rattle.judge.specs.Refusals.{judge_of}
+use Rattle.judge.specs.Refusals.{Verdict, no_fault, judge_of}
 use Rattle.judge.proofs.Judged.{passed_after_vfe}
 use Rattle.reading.specs.Reading.{Reading, command_at, after_verdict, read, reading_of}
 use Rattle.reading.specs.Vfes.{command_number, NearestVfe, UnderVfe}
@@ -90,18 +88,18 @@ module _ (target : Target) (d : ℕ) (ds : List ℕ) (at : ℕ) (cs : List Comma
   abbrev judged : Verdict
   judged = judge_of (kind_of target.chip d) (length (d ∷ ds)) c.head st
 
-  named : judged ≡ Passed → (ys : List Command) → c.kind ≡ 7 → NearestVfe (onto cs ys) (length cs) c.vfe
+  named : judged ≡ no_fault → (ys : List Command) → c.kind ≡ 7 → NearestVfe (onto cs ys) (length cs) c.vfe
   unfolding state_of
   named e ys k =
       in_force_lem cs ys
-      (passed_after_vfe target (length (d ∷ ds)) c.head cs (subst (λ (x : ℕ). judge_of x (length (d ∷ ds)) c.head st ≡ Passed) k e))
+      (passed_after_vfe target (length (d ∷ ds)) c.head cs (subst (λ (x : ℕ). judge_of x (length (d ∷ ds)) c.head st ≡ no_fault) k e))
 
   abbrev Under : Reading → Type 0
   Under r = UnderFrom (onto cs r.passed) (length cs) r.passed
 
   under_verdict : (rest : Reading) → UnderFrom (onto (c ∷ cs) rest.passed) (suc (length cs)) rest.passed → Under (after_verdict judged c rest)
   under_verdict rest u =
-      by_verdict_lem Under c.kind judged _ _ _ (λ m s e. tt)
+      by_verdict_lem Under c.kind judged _ _ _ (λ f e. tt)
       (λ e p. (λ k. let z : ◌≡◌ {A = ℕ} 7 2 = sym k ∙ p in absurd (omega arith), tt)) (λ e p. (named e (c ∷ rest.passed), u))
 
 under : (target : Target) (l : List ℕ) (n at : ℕ) (cs : List Command)

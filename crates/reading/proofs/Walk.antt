@@ -8,15 +8,13 @@ use lib.ListN.{length, get_or, drop, drop_of_length-le}
 use lib.Seq.{drop-cons}
 use Rattle.chips.specs.declared.Target.{Target}
 use Rattle.command.specs.declared.State.{State}
-use Rattle.judge.specs.declared.Verdict.{Verdict}
-use Rattle.judge.specs.declared.Verdict.TheVariants.{Passed}
 use Rattle.command.specs.Kinds.{kind_of, total_of, head_of}
 use Rattle.command.specs.Order.{Command, state_of, state_after}
-use Rattle.judge.specs.Refusals.{judge_of}
+use Rattle.chips.specs.Refusals.{number_of_refusal}
+use Rattle.judge.specs.Refusals.{Verdict, no_fault, judge_of}
 use Rattle.command.proofs.Order.{state_after_lem}
 use Rattle.judge.proofs.Judged.{passed_header, passed_fits, total_pos}
-use Rattle.reading.specs.declared.Turn.{Turn}
-use Rattle.reading.specs.declared.Turn.TheVariants.{Refused, Last, Next}
+use Rattle.reading.specs.Turns.{Turn, Refused, Last, Next}
 use Rattle.reading.specs.Reading.{ended, stopped, Reading, reading, and_then, command_at, after_verdict, read, reading_of}
 use Rattle.reading.specs.Turns.{turned, turn_of, here, walk}
 use Rattle.reading.proofs.Verdicts.{by_verdicts}
@@ -46,7 +44,7 @@ walk_skip (d ∷ ds) (suc s) at st h =
 
 -- a turn, then the rest of the list
 abbrev pub then : Turn → List ℕ → ℕ → State → Reading
-then (Refused m s) l at st = reading [] (stopped m (at + s))
+then (Refused f) l at st = reading [] (stopped (number_of_refusal f.refusal) (at + f.skip))
 then Last l at st = reading (here l at st ∷ []) (ended (at + 1))
 then (Next t next) l at st = and_then (here l at st) (walk (drop t l) 0 (at + t) next)
 
@@ -66,13 +64,13 @@ module _ (d : ℕ) (ds : List ℕ) (at : ℕ) (st : State) where
       ∙ ap (λ (x : ℕ). walk (drop (t - 1) ds) 0 x next) f
       ∙ ap (λ (x : ℕ). walk (drop x (d ∷ ds)) 0 (at + t) next) (sym e)
 
-  by_turn : (v : Verdict) → (v ≡ Passed → t ≤ suc (length ds)) →
+  by_turn : (v : Verdict) → (v ≡ no_fault → t ≤ suc (length ds)) →
       after_verdict v (here (d ∷ ds) at st) (walk ds (t - 1) (at + 1) next) ≡ then (turned v (kind_of st.chip d) (d ∷ ds) st) (d ∷ ds) at st
   by_turn v p =
       by_verdicts (λ (r : Reading) (w : Turn). r ≡ then w (d ∷ ds) at st) (kind_of st.chip d) v _ _ _ _ _ _
-      (λ m s e. refl) (λ e q. refl) (λ e q. ap (and_then (here (d ∷ ds) at st)) (rest (p e)))
+      (λ f e. refl) (λ e q. refl) (λ e q. ap (and_then (here (d ∷ ds) at st)) (rest (p e)))
 
-  pub passes_in : judge_of (kind_of st.chip d) (suc (length ds)) (head_of (kind_of st.chip d) (d ∷ ds)) st ≡ Passed → t ≤ suc (length ds)
+  pub passes_in : judge_of (kind_of st.chip d) (suc (length ds)) (head_of (kind_of st.chip d) (d ∷ ds)) st ≡ no_fault → t ≤ suc (length ds)
   unfolding head_of
   passes_in e = passed_fits (kind_of st.chip d) d (suc (length ds)) (passed_header (kind_of st.chip d) (suc (length ds)) (head_of (kind_of st.chip d) (d ∷ ds)) st e)
 

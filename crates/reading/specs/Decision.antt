@@ -1,9 +1,10 @@
 -- Whether a batch is taken, once it is read: document 01, "Why a batch is turned away", 1, 10 and 17.
-use Rattle.std.specs.Prelude.{ℕ, ◌*◌, ◌/◌, ◌%◌, cond, List, length, ltb, eqb}
+use Rattle.std.specs.Prelude.{ℕ, ◌*◌, ◌/◌, ◌%◌, cond, List, length, ltb, eqb, Result, Ok, Err}
 use Rattle.chips.specs.declared.Target.{Target}
 use Rattle.command.specs.Order.{object_count}
-use Rattle.reading.specs.declared.Scanned.{Scanned}
-use Rattle.reading.specs.declared.Scanned.TheVariants.{Stopped, Ended}
+use Rattle.chips.specs.Refusals.{number_of_refusal}
+use Rattle.reading.specs.declared.Extent.{Extent}
+use Rattle.reading.specs.declared.Refused.{Refused}
 use Rattle.reading.specs.Reading.{Stop, ended, stopped, reading_of}
 
 -- One decision for all that a check gives back: what a refusal (number and place) or success (commands and dwords read) means is the
@@ -30,6 +31,16 @@ part_dword refused bytes = refused 17 (length bytes / 4)
 -- what is given back for bytes that are whole dwords, else the refusal
 abbrev pub whole_dwords : {A : Type 0} → (ℕ → ℕ → A) → List ℕ → A → A
 whole_dwords refused bytes given = cond (eqb (length bytes % 4) 0) given (part_dword refused bytes)
+
+-- What is found before anything is written: a refusal's number and place, or how many commands, dwords and objects an accepted batch has.
+pub data Scanned : Type 0 where
+  Stopped : ℕ → ℕ → Scanned
+  Ended : ℕ → ℕ → ℕ → Scanned
+
+-- the same as the code answers it: the number of each refusal, and what a batch has
+abbrev pub found : Result Extent Refused → Scanned
+found (Err r) = Stopped (number_of_refusal r.refusal) r.place
+found (Ok e) = Ended e.commands e.dwords e.objects
 
 -- what the first pass finds, 1 and 10 aside: a batch read to its end has so many commands n, and so many objects o
 abbrev pub scanned : ℕ → ℕ → Stop → Scanned

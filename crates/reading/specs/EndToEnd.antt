@@ -2,11 +2,12 @@
 -- nor an earlier one is faulty, whatever 1, 10 and 17 say; reading stops at END, a fault or the slice's end."
 use Rattle.std.specs.Prelude.{◌≡◌, true, List, [], ◌∷◌, ℕ, ◌+◌, ◌≤◌, ◌<◌, length, get_or, drop}
 use Rattle.chips.specs.declared.Target.{Target}
-use Rattle.judge.specs.declared.Verdict.{Verdict}
-use Rattle.judge.specs.declared.Verdict.TheVariants.{Fault, Passed}
 use Rattle.command.specs.Kinds.{has_gateway_state, kind_of, head_of}
 use Rattle.command.specs.Order.{Command, state_of}
-use Rattle.judge.specs.Refusals.{judge_of}
+use Rattle.std.specs.Prelude.{Err}
+use Rattle.chips.specs.Refusals.{number_of_refusal}
+use Rattle.judge.specs.declared.Fault.{Fault}
+use Rattle.judge.specs.Refusals.{Verdict, no_fault, judge_of}
 use Rattle.reading.specs.Reading.{Stop, ended, stopped, command_at}
 
 -- the command that b has at a place, after the commands cs, the nearest first; and the verdict on it, rows 3 to 9
@@ -20,7 +21,7 @@ verdict_in target b cs at =
 -- the command c stands in b at a place, whole, and without a fault
 pub record Stands (target : Target) (b : List ℕ) (cs : List Command) (at : ℕ) (c : Command) : Type 0 where
   pub is : c ≡ command_in target b cs at
-  pub faultless : verdict_in target b cs at ≡ Passed
+  pub faultless : verdict_in target b cs at ≡ no_fault
   pub whole : at + c.total ≤ length b
   -- one of the kinds of the chip's table
   pub known : c.kind < 9
@@ -32,8 +33,8 @@ pub data EndToEnd (target : Target) (b : List ℕ) : List Command → ℕ → Li
   -- 2: "slice used up before END (place: its length)"
   used_up : {cs : List Command} → EndToEnd target b cs (length b) [] (stopped 2 (length b))
   -- "The first faulty command decides": its verdict's number, and the place from its first dword on
-  faulty : {cs : List Command} {at m s : ℕ} → at < length b → verdict_in target b cs at ≡ Fault m s
-      → EndToEnd target b cs at [] (stopped m (at + s))
+  faulty : {cs : List Command} {at : ℕ} {f : Fault} → at < length b → verdict_in target b cs at ≡ Err f
+      → EndToEnd target b cs at [] (stopped (number_of_refusal f.refusal) (at + f.skip))
   -- END is the last command
   last : {cs : List Command} {at : ℕ} {c : Command} → at < length b → Stands target b cs at c → c.kind ≡ 2
       → EndToEnd target b cs at (c ∷ []) (ended (at + 1))

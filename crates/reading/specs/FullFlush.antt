@@ -3,11 +3,9 @@
 -- the same. That no other verdict changed is `one_row` of judge/specs/Flushes.antt.
 use Rattle.std.specs.Prelude.{◌≡◌, false, List, [], ◌∷◌, ℕ, ◌+◌, ◌<◌, length, get_or, drop}
 use Rattle.chips.specs.declared.Target.{Target}
-use Rattle.judge.specs.declared.Verdict.{Verdict}
-use Rattle.judge.specs.declared.Verdict.TheVariants.{Passed}
 use Rattle.command.specs.Kinds.{kind_of, head_of}
 use Rattle.command.specs.Order.{Command, media_since_flush, NoStateFlush, state_of}
-use Rattle.judge.specs.Refusals.{judge_by_full_flush}
+use Rattle.judge.specs.Refusals.{Verdict, no_fault, judge_by_full_flush}
 use Rattle.reading.specs.Reading.{ended, reading, reading_of}
 use Rattle.reading.specs.EndToEnd.{command_in}
 
@@ -19,9 +17,9 @@ verdict_by_full_flush target b cs at =
 -- From a place on, after the commands cs: the commands of a list, each without a fault by that rule, one right after the other up to END.
 -- The number counts the dwords up to there.
 pub data PassedByFullFlush (target : Target) (b : List ℕ) : List Command → ℕ → List Command → ℕ → Type 0 where
-  last : {cs : List Command} {at : ℕ} → at < length b → verdict_by_full_flush target b cs at ≡ Passed → (command_in target b cs at).kind ≡ 2
+  last : {cs : List Command} {at : ℕ} → at < length b → verdict_by_full_flush target b cs at ≡ no_fault → (command_in target b cs at).kind ≡ 2
       → PassedByFullFlush target b cs at (command_in target b cs at ∷ []) (at + 1)
-  next : {cs : List Command} {at d : ℕ} {rest : List Command} → at < length b → verdict_by_full_flush target b cs at ≡ Passed
+  next : {cs : List Command} {at d : ℕ} {rest : List Command} → at < length b → verdict_by_full_flush target b cs at ≡ no_fault
       → ((command_in target b cs at).kind ≡ 2 → ⊥)
       → PassedByFullFlush target b (command_in target b cs at ∷ cs) (at + (command_in target b cs at).total) rest d
       → PassedByFullFlush target b cs at (command_in target b cs at ∷ rest) d

@@ -1,13 +1,13 @@
 -- The one reading of a batch, over its list of dwords: the commands passed, and how reading stopped. The answer and the records are
 -- functions of it. It has no limit of length and no room for records in it: 1, 10 and 17 stand in Decision.antt.
-use Rattle.std.specs.Prelude.{ℕ, zero, suc, ◌+◌, ◌-◌, cond, List, [], ◌∷◌, length, get_or, eqb}
+use Rattle.std.specs.Prelude.{ℕ, zero, suc, ◌+◌, ◌-◌, cond, List, [], ◌∷◌, length, get_or, eqb, Ok, Err}
 use Rattle.chips.specs.declared.Target.{Target}
 use Rattle.command.specs.declared.State.{State}
-use Rattle.judge.specs.declared.Verdict.{Verdict}
-use Rattle.judge.specs.declared.Verdict.TheVariants.{Fault, Passed}
 use Rattle.command.specs.Kinds.{kind_of, total_of, head_of}
 use Rattle.command.specs.Order.{Command, command_of, state_of}
-use Rattle.judge.specs.Refusals.{judge_of}
+use Rattle.chips.specs.Refusals.{number_of_refusal}
+use Rattle.judge.specs.declared.Fault.{Fault}
+use Rattle.judge.specs.Refusals.{Verdict, judge_of}
 
 -- "reading stops at END, a fault or the slice's end": after so many dwords, or with the number and place of a refusal
 pub data Stop : Type 0 where
@@ -35,14 +35,14 @@ abbrev pub command_at : ℕ → List ℕ → ℕ → State → Command
 command_at k l at st = command_of k at (total_of k (get_or l 0 0)) (head_of k l) st
 
 -- What a verdict on a command of kind k leads to: a fault's, END's or any other command's.
-abbrev pub by_verdict : {A : Type 0} → (ℕ → ℕ → A) → A → A → ℕ → Verdict → A
-by_verdict fault end next k (Fault m s) = fault m s
-by_verdict fault end next k Passed = cond (eqb k 2) end next
+abbrev pub by_verdict : {A : Type 0} → (Fault → A) → A → A → ℕ → Verdict → A
+by_verdict fault end next k (Err f) = fault f
+by_verdict fault end next k (Ok u) = cond (eqb k 2) end next
 
 -- The command c by its verdict: "The first faulty command decides"; END ends the batch; any other command, then the rest.
 abbrev pub after_verdict : Verdict → Command → Reading → Reading
 after_verdict v c rest =
-    by_verdict (λ m s. reading [] (stopped m (c.place + s))) (reading (c ∷ []) (ended (c.place + 1))) (and_then c rest) c.kind v
+    by_verdict (λ f. reading [] (stopped (number_of_refusal f.refusal) (c.place + f.skip))) (reading (c ∷ []) (ended (c.place + 1))) (and_then c rest) c.kind v
 
 -- The list that is left of a batch, which starts at a place, after the commands cs, the nearest first. n counts the dwords that the
 -- last command still has. 2: "slice used up before END (place: its length)".

@@ -1,21 +1,31 @@
 -- One turn of the code's loop: the command that a list starts with, after what the commands before it have set. proofs/Walk.antt shows that
 -- turn by turn this is the reading.
-use Rattle.std.specs.Prelude.{ℕ, zero, suc, ◌+◌, ◌-◌, ◌^◌, ◌<◌, ◌≤◌, ◌≡◌, Bool, not, ◌&&◌, List, [], ◌∷◌, length, get_or, drop, ltb, eqb}
+use Rattle.std.specs.Prelude.{ℕ, zero, suc, ◌+◌, ◌-◌, ◌^◌, ◌<◌, ◌≤◌, ◌≡◌, Bool, not, ◌&&◌, List, [], ◌∷◌, length, get_or, drop, ltb, eqb, Result, Ok, Err}
 use Rattle.chips.specs.declared.Chip.{Chip}
 use Rattle.command.specs.declared.State.{State}
-use Rattle.judge.specs.declared.Verdict.{Verdict}
-use Rattle.judge.specs.declared.Verdict.TheVariants.{Passed}
 use Rattle.command.specs.Kinds.{kind_of, total_of, head_of}
 use Rattle.command.specs.Order.{Command, object_count, state_after}
-use Rattle.judge.specs.Refusals.{judge_of, header_verdict}
-use Rattle.reading.specs.declared.Scanned.{Scanned}
-use Rattle.reading.specs.declared.Scanned.TheVariants.{Stopped, Ended}
-use Rattle.reading.specs.declared.Turn.{Turn}
-use Rattle.reading.specs.declared.Turn.TheVariants.{Refused, Last, Next}
-use Rattle.reading.specs.declared.Step.{Step}
-use Rattle.reading.specs.declared.Step.TheVariants.{Fault, End, On}
+use Rattle.judge.specs.Refusals.{Verdict, no_fault, judge_of, header_verdict}
+use Rattle.judge.specs.declared.Fault.{Fault}
+use Rattle.reading.specs.declared.Halt.{Halt}
+use Rattle.reading.specs.declared.Halt.TheVariants.{Faulty, End}
+use Rattle.reading.specs.declared.Place.{Place}
 use Rattle.reading.specs.Reading.{Reading, reading, stopped, by_verdict, after_verdict, command_at}
-use Rattle.reading.specs.Decision.{scanned}
+use Rattle.chips.specs.Refusals.{number_of_refusal}
+use Rattle.reading.specs.Decision.{Scanned, Stopped, Ended, scanned}
+
+-- What one command leads to: a refusal at a dword of it, the end, or the next command after so many dwords.
+pub data Turn : Type 0 where
+  Refused : Fault → Turn
+  Last : Turn
+  Next : ℕ → State → Turn
+
+-- What some commands lead to, as the code answers it: a refusal at a dword of the first of them, the end, or where reading goes on.
+abbrev pub Step : Type 0
+Step = Result Place Halt
+
+abbrev pub on : ℕ → State → Step
+on at st = Ok (record { at = at; st = st })
 
 abbrev pub turned : Verdict → ℕ → List ℕ → State → Turn
 turned v k l st = by_verdict Refused Last (Next (total_of k (get_or l 0 0)) (state_after k (head_of k l) st)) k v
@@ -27,9 +37,9 @@ turn_of l st = let k = kind_of st.chip (get_or l 0 0) in turned (judge_of k (len
 abbrev pub here : List ℕ → ℕ → State → Command
 here l at st = command_at (kind_of st.chip (get_or l 0 0)) l at st
 
--- A turn of the first pass is at a place of the batch b, which has len dwords; one command more does not overflow what is counted.
-abbrev pub TurnAt : List ℕ → ℕ → ℕ → State → Type 0
-TurnAt b len at st = (len ≡ length b) × (at < len) × (len < 2 ^ 32) × (st.commands + 1 < 2 ^ 32) × (st.objects + 1 < 2 ^ 32)
+-- A turn of the first pass is at a place of the batch b; one command more does not overflow what is counted.
+abbrev pub TurnAt : List ℕ → ℕ → State → Type 0
+TurnAt b at st = (at < length b) × (length b < 2 ^ 32) × (st.commands + 1 < 2 ^ 32) × (st.objects + 1 < 2 ^ 32)
 
 -- the command at a place starts with the dword d, and is of kind k in the chip's table
 abbrev pub StartsWith : Chip → List ℕ → ℕ → ℕ → ℕ → Type 0
@@ -63,20 +73,19 @@ Within b at st = (at ≤ length b) × (st.commands ≤ at) × (st.objects ≤ at
 
 -- a turn at a place, as a step
 abbrev pub step_of : ℕ → Turn → Step
-step_of at (Refused m s) = Fault m s
-step_of at Last = End
-step_of at (Next t s) = On (at + t) s
+step_of at (Refused f) = Err (Faulty f)
+step_of at Last = Err End
+step_of at (Next t s) = on (at + t) s
 
 -- what a step from a place leads to, and where it goes on: from a place at or after `low`
 abbrev pub found_by : List ℕ → ℕ → State → Step → Scanned
-found_by b at st (Fault m s) = Stopped m (at + s)
-found_by b at st End = Ended (st.commands + 1) (at + 1) st.objects
-found_by b at st (On to s) = scan_from b to s
+found_by b at st (Err (Faulty f)) = Stopped (number_of_refusal f.refusal) (at + f.skip)
+found_by b at st (Err End) = Ended (st.commands + 1) (at + 1) st.objects
+found_by b at st (Ok p) = scan_from b p.at p.st
 
 abbrev pub Beyond : List ℕ → ℕ → Step → Type 0
-Beyond b low (Fault m s) = Unit
-Beyond b low End = Unit
-Beyond b low (On to s) = (low ≤ to) × Within b to s
+Beyond b low (Err h) = Unit
+Beyond b low (Ok p) = (low ≤ p.at) × Within b p.at p.st
 
 -- a step over one or more commands finds what the pass finds, and gets on
 abbrev pub Steps : List ℕ → ℕ → State → Step → Type 0
@@ -86,31 +95,17 @@ Steps b at st r = (found_by b at st r ≡ scan_from b at st) × Beyond b (at + 1
 pub record Header (c : Chip) (k d : ℕ) : Type 0 where
   pub kind : k ≡ kind_of c d
   pub goes : k ≡ 2 → ⊥
-  pub allowed : header_verdict k d (total_of k d) ≡ Passed
+  pub allowed : header_verdict k d (total_of k d) ≡ no_fault
 
 -- does a command of t dwords with first dword d stand at a place?
 unfoldable pub stands_at : List ℕ → ℕ → ℕ → ℕ → Bool
 stands_at b at t d = not (ltb (length b - at) t) && eqb (get_or b at 0) d
 
--- a step that goes on, and its next commands may be those of a header
-abbrev pub Ready : List ℕ → ℕ → ℕ → Step → Type 0
-Ready b k d (Fault m s) = Unit
-Ready b k d End = Unit
-Ready b k d (On at st) = Within b at st × Header st.chip k d
-
--- from a place on, the same is found from where the step r goes on
-abbrev pub Same : List ℕ → ℕ → State → Step → Type 0
-Same b at st (Fault m s) = ⊥
-Same b at st End = ⊥
-Same b at st (On to s) = (scan_from b to s ≡ scan_from b at st) × (at ≤ to) × Within b to s
+-- from a place on, the same is found from where reading goes on
+abbrev pub Same : List ℕ → ℕ → State → Place → Type 0
+Same b at st p = (scan_from b p.at p.st ≡ scan_from b at st) × (at ≤ p.at) × Within b p.at p.st
 
 -- n no-ops stand from a place on
 pub record NoOps (b : List ℕ) (at n : ℕ) : Type 0 where
   pub inside : at + n ≤ length b
   pub each : (j : ℕ) → j < n → get_or b (at + j) 0 ≡ 0
-
--- the step r is the step `first`, and then goes on from there
-abbrev pub Onward : List ℕ → Step → Step → Type 0
-Onward b (Fault m s) r = r ≡ Fault m s
-Onward b End r = r ≡ End
-Onward b (On at st) r = Same b at st r

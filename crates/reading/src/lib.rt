@@ -2,278 +2,245 @@
 #![tactic(auto)]
 
 ghost use Rattle.std.specs.Prelude.{◌≡◌, true, ◌+◌, ◌≤◌, ◌<◌, ◌^◌, length, drop};
-ghost use Rattle.words.specs.Dwords.{lent};
-ghost use Rattle.reading.specs.Decision.{scan_of, decision_of};
+ghost use Rattle.reading.specs.declared.Halt.TheVariants.{Faulty};
+ghost use Rattle.reading.specs.Decision.{found, scan_of, decision_of};
 ghost use Rattle.reading.specs.Turns.{turn_of, TurnAt, StartsWith, step_of, Within, Steps, Header, stands_at};
-ghost use Rattle.reading.specs.Turns.{Ready, Same, Onward, NoOps};
+ghost use Rattle.reading.specs.Turns.{Same, NoOps};
 
-use chips::Target;
+use chips::{Refusal, Target};
 use command::State;
 use command::head::{kind, own_dwords, total};
 use command::states::{after, start};
-use judge::{Verdict, header_verdict, own_verdict, sound};
-use words::{held, word};
+use judge::{Fault, header_verdict, own_verdict, sound};
+use words::Element;
 
-// What is found before anything is written: a refusal, or the end of the batch.
-#[derive(Clone, Copy)]
-pub enum Scanned {
-    Stopped {
-        number: u32,
-        place: usize,
-    },
-    Ended {
-        commands: usize,
-        dwords: usize,
-        objects: usize,
-    },
+// Why a batch is refused, and where.
+#[derive(Clone, Copy, Debug, PartialEq, Eq)]
+pub struct Refused {
+    pub refusal: Refusal,
+    pub place: usize,
 }
 
-// What one command leads to: a refusal at a dword of it, the end, or the next command after so many dwords.
-#[derive(Clone, Copy)]
-pub enum Turn {
-    Refused { number: u32, skip: u32 },
-    Last,
-    Next { total: u32, st: State },
+// What a batch has that is read to its end.
+#[derive(Clone, Copy, Debug, PartialEq, Eq)]
+pub struct Extent {
+    pub commands: usize,
+    pub dwords: usize,
+    pub objects: usize,
 }
 
-// What some commands lead to: a refusal at a dword of the first of them, the end, or the place and the state to go on from.
+// Where reading goes on, and what the commands before have set.
 #[derive(Clone, Copy)]
-enum Step {
-    Fault { number: u32, skip: u32 },
+pub struct Place {
+    pub at: usize,
+    pub st: State,
+}
+
+// Why reading goes no further: a refusal at a dword of the command, or END.
+#[derive(Clone, Copy, Debug, PartialEq, Eq)]
+enum Halt {
+    Faulty(Fault),
     End,
-    On { at: usize, st: State },
 }
+
+impl From<Fault> for Halt {
+    ghost from_gives = { λ fault halt. halt ≡ Faulty fault };
+
+    fn from(fault: Fault) -> Halt {
+        Halt::Faulty(fault)
+    }
+}
+
+// What some commands lead to: why reading goes no further, or the place to go on from.
+type Step = Result<Place, Halt>;
 
 // The command of kind k at a place, whose first dword is d: that dword, then only the dwords of its own.
-fn advance_as(dw: &[u32], by: &[u8], len: usize, at: usize, k: u32, d: u32, st: State) -> Turn
-    requires { TurnAt (lent dw.now by.now) len at st × StartsWith st.chip (lent dw.now by.now) at k d }
-    ensures { result ≡ turn_of (drop at (lent dw.now by.now)) st }
+fn advance_as<T: Element>(source: &[T], at: usize, k: u32, d: u32, st: State) -> Step
+    requires { TurnAt (T.dwords source.now) at st × StartsWith st.chip (T.dwords source.now) at k d }
+    ensures { result ≡ step_of at (turn_of (drop at (T.dwords source.now)) st) }
 {
-    match header_verdict(k, d, len - at) {
-        Verdict::Fault { number, skip } => Turn::Refused { number, skip },
-        Verdict::Passed => {
-            let h = own_dwords(dw, by, at, k, d);
-            match own_verdict(k, h, st) {
-                Verdict::Fault { number, skip } => Turn::Refused { number, skip },
-                Verdict::Passed => {
-                    if k == 2 {
-                        return Turn::Last;
-                    }
-                    Turn::Next {
-                        total: total(k, d),
-                        st: after(k, h, st),
-                    }
-                }
-            }
-        }
+    header_verdict(k, d, T::held(source) - at)?;
+    let h = own_dwords(source, at, k, d);
+    own_verdict(k, h, st)?;
+    if k == 2 {
+        return Err(Halt::End);
     }
-}
-
-// What a turn at a place leads to.
-fn as_step(at: usize, turn: Turn) -> Step
-    requires { at < 2 ^ 32 }
-    ensures { result ≡ step_of at turn }
-{
-    match turn {
-        Turn::Refused { number, skip } => Step::Fault { number, skip },
-        Turn::Last => Step::End,
-        Turn::Next { total, st } => Step::On {
-            at: at + total as usize,
-            st,
-        },
-    }
+    Ok(Place {
+        at: at + total(k, d) as usize,
+        st: after(k, h, st),
+    })
 }
 
 // Does a command of t dwords with the first dword d stand at a place?
-pub fn repeated(dw: &[u32], by: &[u8], len: usize, at: usize, t: usize, d: u32) -> bool
-    requires { (len ≡ length (lent dw.now by.now)) × (at ≤ len) × (1 ≤ t) }
-    ensures { result ≡ stands_at (lent dw.now by.now) at t d }
+pub fn repeated<T: Element>(source: &[T], at: usize, t: usize, d: u32) -> bool
+    requires { (at ≤ length (T.dwords source.now)) × (1 ≤ t) }
+    ensures { result ≡ stands_at (T.dwords source.now) at t d }
 {
-    if len - at < t {
-        return false;
-    }
-    word(dw, by, at) == d
+    t <= T::held(source) - at && T::word(source, at) == d
 }
 
 // The commands from a place on that start with the same dword d, of kind k, as the one before, while they pass. Their total is known before
-// they are read, so that the next is not waited for.
-fn again(dw: &[u32], by: &[u8], len: usize, from: usize, k: u32, d: u32, st: State) -> Step
-    requires { (len ≡ length (lent dw.now by.now)) × (len ≤ 16384) × Within (lent dw.now by.now) from st × Header st.chip k d }
-    ensures { Same (lent dw.now by.now) from st result }
+// they are read, so that the next is not waited for. A `while`, as in `no_ops` and `scan`: the place goes on by commands, not by one.
+fn again<T: Element>(source: &[T], k: u32, d: u32, from: usize, st: State) -> Place
+    requires { (length (T.dwords source.now) ≤ 16384) × Within (T.dwords source.now) from st × Header st.chip k d }
+    ensures { Same (T.dwords source.now) from st result }
 {
     let t = total(k, d) as usize;
     let mut at = from;
     let mut s = st;
-    while repeated(dw, by, len, at, t, d) {
-        let h = own_dwords(dw, by, at, k, d);
+    while repeated(source, at, t, d) {
+        let h = own_dwords(source, at, k, d);
         if !sound(k, h, s) {
-            return Step::On { at, st: s };
+            return Place { at, st: s };
         }
-        at = at + t;
+        at += t;
         s = after(k, h, s);
     }
-    Step::On { at, st: s }
+    Place { at, st: s }
 }
 
 // Do four no-ops stand at a place?
-fn four_no_ops(dw: &[u32], by: &[u8], len: usize, at: usize) -> bool
-    requires { (len ≡ length (lent dw.now by.now)) × (at ≤ len) × (len ≤ 16384) }
-    ensures { result ≡ true → NoOps (lent dw.now by.now) at 4 }
+fn four_no_ops<T: Element>(source: &[T], at: usize) -> bool
+    requires { (at ≤ length (T.dwords source.now)) × (length (T.dwords source.now) ≤ 16384) }
+    ensures { result ≡ true → NoOps (T.dwords source.now) at 4 }
 {
-    if len - at < 4 {
+    if T::held(source) - at < 4 {
         return false;
     }
-    word(dw, by, at) | word(dw, by, at + 1) | word(dw, by, at + 2) | word(dw, by, at + 3) == 0
+    T::word(source, at)
+        | T::word(source, at + 1)
+        | T::word(source, at + 2)
+        | T::word(source, at + 3)
+        == 0
 }
 
 // The no-ops from a place on, four at a time.
-fn no_ops(dw: &[u32], by: &[u8], len: usize, from: usize, st: State) -> Step
-    requires { (len ≡ length (lent dw.now by.now)) × (len ≤ 16384) × Within (lent dw.now by.now) from st }
-    ensures { Same (lent dw.now by.now) from st result }
+fn no_ops<T: Element>(source: &[T], from: usize, st: State) -> Place
+    requires { (length (T.dwords source.now) ≤ 16384) × Within (T.dwords source.now) from st }
+    ensures { Same (T.dwords source.now) from st result }
 {
     let mut at = from;
     let mut s = st;
-    while four_no_ops(dw, by, len, at) {
-        at = at + 4;
-        s.commands = s.commands + 4;
+    while four_no_ops(source, at) {
+        at += 4;
+        s.commands += 4;
     }
-    again(dw, by, len, at, 0, 0, s)
+    again(source, 0, 0, at, s)
 }
 
-// A step, then the commands that start with the same dword.
-fn and_again(dw: &[u32], by: &[u8], len: usize, k: u32, d: u32, first: Step) -> Step
-    requires { (len ≡ length (lent dw.now by.now)) × (len ≤ 16384) × Ready (lent dw.now by.now) k d first }
-    ensures { Onward (lent dw.now by.now) first result }
+// The command of kind K at a place, whose first dword is d, then those that start with the same dword. Code of its own for each kind.
+fn advance_all<T: Element, const K: u32>(source: &[T], at: usize, d: u32, st: State) -> Step
+    requires { (at < length (T.dwords source.now)) × (length (T.dwords source.now) ≤ 16384) × Within (T.dwords source.now) at st
+        × StartsWith st.chip (T.dwords source.now) at K d }
+    ensures { Steps (T.dwords source.now) at st result }
 {
-    match first {
-        Step::Fault { number, skip } => Step::Fault { number, skip },
-        Step::End => Step::End,
-        Step::On { at, st } => {
-            if k == 0 {
-                return no_ops(dw, by, len, at, st);
-            }
-            again(dw, by, len, at, k, d, st)
-        }
+    let next = advance_as(source, at, K, d, st)?;
+    if K == 0 {
+        return Ok(no_ops(source, next.at, next.st));
     }
+    Ok(again(source, K, d, next.at, next.st))
 }
 
 // The command of kind k at a place, whose first dword is d, and those after it that start with the same dword, where k is rarely met.
-fn advance_other(dw: &[u32], by: &[u8], len: usize, at: usize, k: u32, d: u32, st: State) -> Step
-    requires { (len ≡ length (lent dw.now by.now)) × (at < len) × (len ≤ 16384) × Within (lent dw.now by.now) at st
-        × StartsWith st.chip (lent dw.now by.now) at k d }
-    ensures { Steps (lent dw.now by.now) at st result }
+fn advance_other<T: Element>(source: &[T], at: usize, k: u32, d: u32, st: State) -> Step
+    requires { (at < length (T.dwords source.now)) × (length (T.dwords source.now) ≤ 16384) × Within (T.dwords source.now) at st
+        × StartsWith st.chip (T.dwords source.now) at k d }
+    ensures { Steps (T.dwords source.now) at st result }
 {
     if k == 4 {
-        let first = as_step(at, advance_as(dw, by, len, at, 4, d, st));
-        return and_again(dw, by, len, 4, d, first);
+        return advance_all::<T, 4>(source, at, d, st);
     }
     if k == 6 {
-        let first = as_step(at, advance_as(dw, by, len, at, 6, d, st));
-        return and_again(dw, by, len, 6, d, first);
+        return advance_all::<T, 6>(source, at, d, st);
     }
     if k == 8 {
-        let first = as_step(at, advance_as(dw, by, len, at, 8, d, st));
-        return and_again(dw, by, len, 8, d, first);
+        return advance_all::<T, 8>(source, at, d, st);
     }
-    as_step(at, advance_as(dw, by, len, at, k, d, st))
+    advance_as(source, at, k, d, st)
 }
 
-// The command at a place, and those after it that start with the same dword. A kind that is a constant in the call gets code of its own.
-fn advance(dw: &[u32], by: &[u8], len: usize, at: usize, st: State) -> Step
-    requires { (len ≡ length (lent dw.now by.now)) × (at < len) × (len ≤ 16384) × Within (lent dw.now by.now) at st }
-    ensures { Steps (lent dw.now by.now) at st result }
+// The command at a place, and those after it that start with the same dword. The kinds most met are asked for first: of a `match` the
+// compiler makes a table of jumps.
+fn advance<T: Element>(source: &[T], at: usize, st: State) -> Step
+    requires { (at < length (T.dwords source.now)) × (length (T.dwords source.now) ≤ 16384) × Within (T.dwords source.now) at st }
+    ensures { Steps (T.dwords source.now) at st result }
 {
-    let d = word(dw, by, at);
+    let d = T::word(source, at);
     let chip = st.chip;
     let k = kind(chip, d);
     if k == 7 {
-        let first = as_step(at, advance_as(dw, by, len, at, 7, d, st));
-        return and_again(dw, by, len, 7, d, first);
+        return advance_all::<T, 7>(source, at, d, st);
     }
     if k == 0 {
-        let first = as_step(at, advance_as(dw, by, len, at, 0, d, st));
-        return and_again(dw, by, len, 0, d, first);
+        return advance_all::<T, 0>(source, at, d, st);
     }
     if k == 3 {
-        return as_step(at, advance_as(dw, by, len, at, 3, d, st));
+        return advance_as(source, at, 3, d, st);
     }
     if k == 5 {
-        let first = as_step(at, advance_as(dw, by, len, at, 5, d, st));
-        return and_again(dw, by, len, 5, d, first);
+        return advance_all::<T, 5>(source, at, d, st);
     }
     if k == 2 {
-        return as_step(at, advance_as(dw, by, len, at, 2, d, st));
+        return advance_as(source, at, 2, d, st);
     }
     if k == 1 {
-        return as_step(at, advance_as(dw, by, len, at, 1, d, st));
+        return advance_as(source, at, 1, d, st);
     }
-    advance_other(dw, by, len, at, k, d, st)
+    advance_other(source, at, k, d, st)
 }
 
 // The first pass.
-fn scan(target: Target, dw: &[u32], by: &[u8]) -> Scanned
-    requires { length (lent dw.now by.now) ≤ 16384 }
-    ensures { result ≡ scan_of target (lent dw.now by.now) }
+fn scan<T: Element>(target: Target, source: &[T]) -> Result<Extent, Refused>
+    requires { length (T.dwords source.now) ≤ 16384 }
+    ensures { found result ≡ scan_of target (T.dwords source.now) }
 {
-    let len = held(dw, by);
     let mut at: usize = 0;
     let mut st = start(target);
-    while at < len {
-        match advance(dw, by, len, at, st) {
-            Step::Fault { number, skip } => {
-                return Scanned::Stopped {
-                    number,
-                    place: at + skip as usize,
-                };
+    while at < T::held(source) {
+        match advance(source, at, st) {
+            Err(Halt::Faulty(fault)) => {
+                return Err(Refused {
+                    refusal: fault.refusal,
+                    place: at + fault.skip as usize,
+                });
             }
-            Step::End => {
-                return Scanned::Ended {
+            Err(Halt::End) => {
+                return Ok(Extent {
                     commands: st.commands as usize + 1,
                     dwords: at + 1,
                     objects: st.objects as usize,
-                };
+                });
             }
-            Step::On { at: to, st: next } => {
-                at = to;
-                st = next;
+            Ok(next) => {
+                at = next.at;
+                st = next.st;
             }
         }
     }
-    Scanned::Stopped {
-        number: 2,
+    Err(Refused {
+        refusal: Refusal::NoEnd,
         place: at,
-    }
+    })
 }
 
 // The whole decision, before anything is written: 1 to 10, or the end of the batch with what it has. The record buffer has room for so many
 // words.
-pub fn decide(target: Target, dw: &[u32], by: &[u8], room: usize) -> Scanned
-    ensures { result ≡ decision_of target room (lent dw.now by.now) }
+#[inline(never)]
+pub fn decide<T: Element>(target: Target, source: &[T], room: usize) -> Result<Extent, Refused>
+    ensures { found result ≡ decision_of target room (T.dwords source.now) }
 {
-    if 16384 < held(dw, by) {
-        return Scanned::Stopped {
-            number: 1,
+    if 16384 < T::held(source) {
+        return Err(Refused {
+            refusal: Refusal::TooLong,
             place: 0,
-        };
+        });
     }
-    match scan(target, dw, by) {
-        Scanned::Stopped { number, place } => Scanned::Stopped { number, place },
-        Scanned::Ended {
-            commands,
-            dwords,
-            objects,
-        } => {
-            if room / 16 < commands {
-                return Scanned::Stopped {
-                    number: 10,
-                    place: dwords,
-                };
-            }
-            Scanned::Ended {
-                commands,
-                dwords,
-                objects,
-            }
-        }
+    let extent = scan(target, source)?;
+    if room / 16 < extent.commands {
+        return Err(Refused {
+            refusal: Refusal::NoRoom,
+            place: extent.dwords,
+        });
     }
+    Ok(extent)
 }

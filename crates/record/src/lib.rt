@@ -8,15 +8,14 @@ ghost use Rattle.record.specs.Record.{record_of, padded};
 
 use command::State;
 
+#[inline(always)]
 fn inline_count(total: u32) -> u32
     ensures { result ≡ total - inline_from }
 {
-    if total < 6 {
-        return 0;
-    }
-    total - 6
+    total.saturating_sub(6)
 }
 
+#[inline(always)]
 fn vfe(h: [u32; 8], at: u32, total: u32, st: State) -> [u32; 16]
     ensures { result ≡ record_of (command_of 3 at total h st) }
 {
@@ -40,6 +39,7 @@ fn vfe(h: [u32; 8], at: u32, total: u32, st: State) -> [u32; 16]
     ]
 }
 
+#[inline(always)]
 fn object(h: [u32; 8], at: u32, total: u32, st: State) -> [u32; 16]
     ensures { result ≡ record_of (command_of 7 at total h st) }
 {
@@ -65,6 +65,7 @@ fn object(h: [u32; 8], at: u32, total: u32, st: State) -> [u32; 16]
 }
 
 // A record with at most two fields.
+#[inline(always)]
 fn short(k: u32, at: u32, total: u32, first: u32, second: u32) -> [u32; 16]
     ensures { result ≡ k ∷ at ∷ total ∷ padded 13 (first ∷ second ∷ []) }
 {
@@ -72,6 +73,7 @@ fn short(k: u32, at: u32, total: u32, first: u32, second: u32) -> [u32; 16]
 }
 
 // The record of the command of kind k at a place, with what the commands before it have set.
+#[inline(always)]
 pub fn words(k: u32, h: [u32; 8], at: u32, total: u32, st: State) -> [u32; 16]
     ensures { result ≡ record_of (command_of k at total h st) }
 {

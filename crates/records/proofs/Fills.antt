@@ -11,28 +11,25 @@ use borrow.Author.Tests.{ltb-true, ltb-false, eq-eqb, ne_eqb}
 use Rattle.chips.specs.declared.Target.{Target}
 use Rattle.laws.proofs.Choices.{by_test}
 use Rattle.command.specs.declared.State.{State}
-use Rattle.judge.specs.declared.Verdict.{Verdict}
-use Rattle.judge.specs.declared.Verdict.TheVariants.{Fault, Passed}
+use Rattle.std.specs.Prelude.{Ok, Err}
 use Rattle.command.specs.Kinds.{kind_of, length_field, length_allowed, total_of, head_of, own_dwords}
 use Rattle.command.specs.Order.{command_of, state_of, state_after}
 use Rattle.record.specs.Record.{record_of}
-use Rattle.judge.specs.Refusals.{header_verdict, judge_of}
+use Rattle.judge.specs.Refusals.{Verdict, no_fault, header_verdict, judge_of}
 use Rattle.judge.proofs.Judged.{passed_header, passed_length, own_fits_left}
 use Rattle.words.specs.Dwords.{Buffer, put_in}
-use Rattle.reading.specs.declared.Turn.{Turn}
-use Rattle.reading.specs.declared.Turn.TheVariants.{Refused, Last, Next}
 use Rattle.reading.specs.Reading.{Whole, Reading, and_then, reading_of}
 use Rattle.records.specs.Records.{put_words, written, Fits, recorded}
-use Rattle.reading.specs.Turns.{walk, turned, turn_of, here}
+use Rattle.reading.specs.Turns.{Turn, Refused, Last, Next, walk, turned, turn_of, here}
 use Rattle.records.specs.Turns.{Passes, with_record, records_from, Left}
 use Rattle.reading.proofs.Walk.{reading_walk, then, turn_at, walk_end}
 use Rattle.reading.proofs.Turns.{first, turn_is, head_first}
 use Rattle.reading.proofs.Scans.{grown, next_bounds, start_commands, start_objects}
 
 -- a turn that is not refused has passed all rows
-passed_turn : (v : Verdict) (k : ℕ) (l : List ℕ) (st : State) → Passes (turned v k l st) → v ≡ Passed
-passed_turn (Fault m s) k l st h = absurd h
-passed_turn Passed k l st h = refl
+passed_turn : (v : Verdict) (k : ℕ) (l : List ℕ) (st : State) → Passes (turned v k l st) → v ≡ no_fault
+passed_turn (Err f) k l st h = absurd h
+passed_turn (Ok u) k l st h = refl
 
 -- d, k, t and h are the first dword at a place, its kind, its total and its own dwords, as the code has them
 module _ (b : List ℕ) (at d k : ℕ) (st : State) (ed : d ≡ get_or b at 0) (ek : k ≡ kind_of st.chip d) where
@@ -49,7 +46,7 @@ module _ (b : List ℕ) (at d k : ℕ) (st : State) (ed : d ≡ get_or b at 0) (
   turns_as = turn_is b L at d k st (header_verdict k d (L - at)) refl ed ek refl
 
   module _ (g : Passes (turn_of (drop at b) st)) where
-    passed : judge_of k (L - at) (head_of k (drop at b)) st ≡ Passed
+    passed : judge_of k (L - at) (head_of k (drop at b)) st ≡ no_fault
     passed = passed_turn (judge_of k (L - at) (head_of k (drop at b)) st) k (drop at b) st (subst Passes turns_as g)
 
     pub own_passed : at < length b → at + own_dwords k ≤ length b
@@ -61,7 +58,7 @@ module _ (b : List ℕ) (at d k : ℕ) (st : State) (ed : d ≡ get_or b at 0) (
     length_passed =
         let h = head_of k (drop at b) in
         let f = head_first b L at d k st (header_verdict k d (L - at)) refl ed ek refl in
-        passed_length k d (L - at) (subst (λ (x : ℕ). header_verdict k x (L - at) ≡ Passed) f (passed_header k (L - at) h st passed))
+        passed_length k d (L - at) (subst (λ (x : ℕ). header_verdict k x (L - at) ≡ no_fault) f (passed_header k (L - at) h st passed))
 
     module _ (t : ℕ) (h : List ℕ) (et : t ≡ total_of k d) (eh : h ≡ head_of k (drop at b)) where
       turned_is : turn_of (drop at b) st ≡ cond (eqb k 2) Last (Next t (state_after k h st))
@@ -81,15 +78,15 @@ module _ (b : List ℕ) (at d k : ℕ) (st : State) (ed : d ≡ get_or b at 0) (
         sym (ap (λ (x : ℕ). command_of x at (total_of x (get_or (drop at b) 0 0)) (head_of x (drop at b)) st) kinds
         ∙ ap₂ (λ (x : ℕ) (y : List ℕ). command_of k at x y st) (ap (total_of k) begins ∙ sym et) (sym eh))
 
-    pub record_here : (r r' : Buffer) (w : List ℕ) → w ≡ record_of (command_of k at t h st) → r' ≡ put_words put_in r st.commands w 16
-        → r' ≡ with_record b at st r
-    record_here r r' w ew er = er ∙ ap (λ (x : List ℕ). put_words put_in r st.commands x 16) (ew ∙ ap record_of it)
+    pub record_here : {E : Type 0} (stored : List E → ℕ → ℕ → List E) (r r' : Buffer E) (w : List ℕ) → w ≡ record_of (command_of k at t h st)
+        → r' ≡ put_words (put_in stored) r st.commands w 16 → r' ≡ with_record stored b at st r
+    record_here stored r r' w ew er = er ∙ ap (λ (x : List ℕ). put_words (put_in stored) r st.commands x 16) (ew ∙ ap record_of it)
 
 pub ruleset following_laws = (following_end, following_then, record_here)
 
 -- a batch that is read to its END has no refusal on the way
 live_passes : (w : Turn) (l : List ℕ) (at : ℕ) (st : State) → Whole (then w l at st).stop → Passes w
-live_passes (Refused m s) l at st h = absurd h
+live_passes (Refused f) l at st h = absurd h
 live_passes Last l at st h = tt
 live_passes (Next t s) l at st h = tt
 
@@ -105,7 +102,7 @@ module _ (b : List ℕ) (at : ℕ) (st : State) (n : ℕ) (l : Left b at st n) w
 
   -- one command more is still to be read
   some : (w : Turn) → Passes w → 1 ≤ length (then w (drop at b) at st).passed
-  some (Refused m s) g = absurd g
+  some (Refused f) g = absurd g
   some Last g = omega arith
   some (Next t s) g = omega arith
 
@@ -119,9 +116,10 @@ module _ (b : List ℕ) (at : ℕ) (st : State) (n : ℕ) (l : Left b at st n) w
   walks w e = turn_at b at st left_in ∙ ap (λ (w : Turn). then w (drop at b) at st) e
 
   -- the record of the last command
-  pub left_last : (r r' : Buffer) → turn_of (drop at b) st ≡ Last → r' ≡ with_record b at st r → r' ≡ records_from b at st r
+  pub left_last : {E : Type 0} (stored : List E → ℕ → ℕ → List E) (r r' : Buffer E) → turn_of (drop at b) st ≡ Last → r' ≡ with_record stored b at st r
+      → r' ≡ records_from stored b at st r
   unfolding written records_from
-  left_last r r' e er = er ∙ ap (λ (x : Reading). written put_in x.passed st.commands r) (sym (walks Last e))
+  left_last stored r r' e er = er ∙ ap (λ (x : Reading). written (put_in stored) x.passed st.commands r) (sym (walks Last e))
 
   module _ (t : ℕ) (s : State) (e : turn_of (drop at b) st ≡ Next t s) where
     bounds : (1 ≤ t) × (t ≤ length b - at) × (s.commands ≡ st.commands + 1) × (s.objects ≤ st.objects + 1)
@@ -154,12 +152,13 @@ module _ (b : List ℕ) (at : ℕ) (st : State) (n : ℕ) (l : Left b at st n) w
         }
 
     -- the record of this command, and then the rest
-    pub left_records : (r r' : Buffer) → r' ≡ with_record b at st r → records_from b (at + t) s r' ≡ records_from b at st r
+    pub left_records : {E : Type 0} (stored : List E → ℕ → ℕ → List E) (r r' : Buffer E) → r' ≡ with_record stored b at st r
+        → records_from stored b (at + t) s r' ≡ records_from stored b at st r
     unfolding written records_from
-    left_records r r' er =
+    left_records {E = E} stored r r' er =
         let q : s.commands ≡ st.commands + 1 = bounds.2 in
-        ap₂ (λ (n : ℕ) (x : Buffer). written put_in (walk (drop (at + t) b) 0 (at + t) s).passed n x) q er
-        ∙ ap (λ (x : Reading). written put_in x.passed st.commands r) (sym goes)
+        ap₂ (λ (n : ℕ) (x : Buffer E). written (put_in stored) (walk (drop (at + t) b) 0 (at + t) s).passed n x) q er
+        ∙ ap (λ (x : Reading). written (put_in stored) x.passed st.commands r) (sym goes)
 
 module _ (target : Target) (b : List ℕ) (st : State) (e : st ≡ state_of target []) where
   starts : reading_of target b ≡ walk b 0 0 st
@@ -182,6 +181,6 @@ module _ (target : Target) (b : List ℕ) (st : State) (e : st ≡ state_of targ
         fits = omega arith;
       }
 
-  pub start_records : (r : Buffer) → records_from b 0 st r ≡ recorded put_in target b r
+  pub start_records : {E : Type 0} (stored : List E → ℕ → ℕ → List E) (r : Buffer E) → records_from stored b 0 st r ≡ recorded (put_in stored) target b r
   unfolding records_from
-  start_records r = ap₂ (λ (x : Reading) (n : ℕ). written put_in x.passed n r) (sym starts) none
+  start_records stored r = ap₂ (λ (x : Reading) (n : ℕ). written (put_in stored) x.passed n r) (sym starts) none

@@ -2,27 +2,22 @@
 #![tactic(auto)]
 
 ghost use Rattle.std.specs.Prelude.{◌≡◌, ◌+◌, ◌*◌, ◌^◌, ◌<◌, ◌≤◌, length, true};
-ghost use Rattle.words.specs.Dwords.{lent, lent_buffer, put_in};
+ghost use Rattle.words.specs.Dwords.{lent_buffer, put_in};
 ghost use Rattle.command.specs.Kinds.{length_field, length_allowed, total_of};
 ghost use Rattle.reading.specs.Turns.{StartsWith, Header};
 ghost use Rattle.records.specs.Records.{slot, put_words, Fits, recorded};
-ghost use Rattle.records.specs.Turns.{records_from, Left, rest_of, GoesOn, Ready, Onward};
+ghost use Rattle.records.specs.Turns.{records_from, Left, rest_of, GoesOn, MayRepeat};
 
 use chips::Target;
 use command::State;
 use command::head::{kind, own_dwords, total};
 use command::states::{after, start};
+use reading::Place;
 use record::words;
-use words::{store_in, word};
-
-// Where the second pass goes on.
-#[derive(Clone, Copy)]
-enum Place {
-    Done,
-    From { at: usize, st: State },
-}
+use words::Element;
 
 // Where word f of record i stands in a record buffer.
+#[inline(always)]
 pub fn slot_of(i: usize, f: usize) -> usize
     requires { (i < 2 ^ 32) × (f < 16) }
     ensures { result ≡ slot i f }
@@ -31,18 +26,18 @@ pub fn slot_of(i: usize, f: usize) -> usize
 }
 
 // Writes the words of record i.
-pub fn put(rd: &mut [u32], rb: &mut [u8], i: usize, w: [u32; 16])
-    requires { (16 * i + 16 ≤ length (lent rd.old rb.old)) × (i < 2 ^ 32) }
-    ensures { lent_buffer rd.new rb.new ≡ put_words put_in (lent_buffer rd.old rb.old) i w 16 }
+#[inline(always)]
+pub fn put<B: Element>(records: &mut [B], i: usize, w: [u32; 16])
+    requires { (16 * i + 16 ≤ length (B.dwords records.old)) × (i < 2 ^ 32) }
+    ensures { lent_buffer B.dwords records.new ≡ put_words (put_in B.stored) (lent_buffer B.dwords records.old) i w 16 }
 {
-    let mut f: usize = 0;
-    while f < 16 {
-        store_in(rd, rb, slot_of(i, f), w[f]);
-        f += 1;
+    for f in 0..16 {
+        B::put(records, slot_of(i, f), w[f]);
     }
 }
 
 // The total of a command of kind k that passed, with first dword d: only an OBJECT's is not the kind's own.
+#[inline(always)]
 fn passed_total(k: u32, d: u32) -> u32
     requires { length_allowed k (length_field d) ≡ true }
     ensures { result ≡ total_of k d }
@@ -59,162 +54,150 @@ fn passed_total(k: u32, d: u32) -> u32
 }
 
 // Writes the record of the command of kind k at a place, whose first dword is d.
-fn record_as(
-    dw: &[u32],
-    by: &[u8],
+#[inline(always)]
+fn record_as<S: Element, B: Element>(
+    source: &[S],
     at: usize,
     k: u32,
     d: u32,
     st: State,
-    rd: &mut [u32],
-    rb: &mut [u8],
-) -> Place
-    requires { Left (lent dw.now by.now) at st (length (lent rd.old rb.old)) × StartsWith st.chip (lent dw.now by.now) at k d }
-    ensures { (rest_of (lent dw.now by.now) result (lent_buffer rd.new rb.new)
-        ≡ records_from (lent dw.now by.now) at st (lent_buffer rd.old rb.old))
-        × GoesOn (lent dw.now by.now) (at + 1) (length (lent rd.old rb.old)) result
-        × Ready (lent dw.now by.now) k d (length (lent rd.old rb.old)) result }
+    records: &mut [B],
+) -> Option<Place>
+    requires { Left (S.dwords source.now) at st (length (B.dwords records.old)) × StartsWith st.chip (S.dwords source.now) at k d }
+    ensures { (rest_of B.stored (S.dwords source.now) result (lent_buffer B.dwords records.new)
+        ≡ records_from B.stored (S.dwords source.now) at st (lent_buffer B.dwords records.old))
+        × GoesOn (S.dwords source.now) (at + 1) (length (B.dwords records.old)) result
+        × MayRepeat k d result }
 {
     let t = passed_total(k, d);
-    let h = own_dwords(dw, by, at, k, d);
-    put(rd, rb, st.commands as usize, words(k, h, at as u32, t, st));
+    let h = own_dwords(source, at, k, d);
+    put(records, st.commands as usize, words(k, h, at as u32, t, st));
     if k == 2 {
-        return Place::Done;
+        return None;
     }
-    Place::From {
+    Some(Place {
         at: at + t as usize,
         st: after(k, h, st),
-    }
+    })
 }
 
-// Writes the records of the commands from a place on that start with the same dword d, of kind k, as the one before.
-fn again(
-    dw: &[u32],
-    by: &[u8],
-    from: usize,
+// Writes the records of the commands from a place on that start with the same dword d, of kind k, as the one before. A `while`: the place
+// goes on by commands.
+#[inline(always)]
+fn again<S: Element, B: Element>(
+    source: &[S],
     k: u32,
     d: u32,
-    st: State,
-    rd: &mut [u32],
-    rb: &mut [u8],
+    from: Place,
+    records: &mut [B],
 ) -> Place
-    requires { Left (lent dw.now by.now) from st (length (lent rd.old rb.old)) × Header st.chip k d }
-    ensures { (rest_of (lent dw.now by.now) result (lent_buffer rd.new rb.new)
-        ≡ records_from (lent dw.now by.now) from st (lent_buffer rd.old rb.old))
-        × GoesOn (lent dw.now by.now) from (length (lent rd.old rb.old)) result }
+    requires { Left (S.dwords source.now) from.at from.st (length (B.dwords records.old)) × Header from.st.chip k d }
+    ensures { (records_from B.stored (S.dwords source.now) result.at result.st (lent_buffer B.dwords records.new)
+        ≡ records_from B.stored (S.dwords source.now) from.at from.st (lent_buffer B.dwords records.old))
+        × (from.at ≤ result.at) × Left (S.dwords source.now) result.at result.st (length (B.dwords records.old)) }
 {
     let t = passed_total(k, d);
-    let mut at = from;
-    let mut s = st;
-    while word(dw, by, at) == d {
-        let h = own_dwords(dw, by, at, k, d);
-        put(rd, rb, s.commands as usize, words(k, h, at as u32, t, s));
+    let mut at = from.at;
+    let mut s = from.st;
+    while S::word(source, at) == d {
+        let h = own_dwords(source, at, k, d);
+        put(records, s.commands as usize, words(k, h, at as u32, t, s));
         s = after(k, h, s);
-        at = at + t as usize;
+        at += t as usize;
     }
-    Place::From { at, st: s }
+    Place { at, st: s }
 }
 
-// After a first command, those that start with the same dword.
-fn and_again(
-    dw: &[u32],
-    by: &[u8],
-    k: u32,
+// Writes the record of the command of kind K at a place, whose first dword is d, and of those after it that start with the same dword. Code
+// of its own for each kind.
+#[inline(always)]
+fn record_all<S: Element, B: Element, const K: u32>(
+    source: &[S],
+    at: usize,
     d: u32,
-    first: Place,
-    rd: &mut [u32],
-    rb: &mut [u8],
-) -> Place
-    requires { Ready (lent dw.now by.now) k d (length (lent rd.old rb.old)) first }
-    ensures { (rest_of (lent dw.now by.now) result (lent_buffer rd.new rb.new)
-        ≡ rest_of (lent dw.now by.now) first (lent_buffer rd.old rb.old))
-        × Onward (lent dw.now by.now) (length (lent rd.old rb.old)) first result }
+    st: State,
+    records: &mut [B],
+) -> Option<Place>
+    requires { Left (S.dwords source.now) at st (length (B.dwords records.old)) × StartsWith st.chip (S.dwords source.now) at K d }
+    ensures { (rest_of B.stored (S.dwords source.now) result (lent_buffer B.dwords records.new)
+        ≡ records_from B.stored (S.dwords source.now) at st (lent_buffer B.dwords records.old))
+        × GoesOn (S.dwords source.now) (at + 1) (length (B.dwords records.old)) result }
 {
-    match first {
-        Place::Done => Place::Done,
-        Place::From { at, st } => again(dw, by, at, k, d, st, rd, rb),
-    }
+    let next = record_as(source, at, K, d, st, records)?;
+    Some(again(source, K, d, next, records))
 }
 
 // Writes the record of the command of kind k at a place, whose first dword is d, and of those after it that start with the same dword,
 // where k is rarely met.
-fn record_other(
-    dw: &[u32],
-    by: &[u8],
+#[inline(always)]
+fn record_other<S: Element, B: Element>(
+    source: &[S],
     at: usize,
     k: u32,
     d: u32,
     st: State,
-    rd: &mut [u32],
-    rb: &mut [u8],
-) -> Place
-    requires { Left (lent dw.now by.now) at st (length (lent rd.old rb.old)) × StartsWith st.chip (lent dw.now by.now) at k d }
-    ensures { (rest_of (lent dw.now by.now) result (lent_buffer rd.new rb.new)
-        ≡ records_from (lent dw.now by.now) at st (lent_buffer rd.old rb.old))
-        × GoesOn (lent dw.now by.now) (at + 1) (length (lent rd.old rb.old)) result }
+    records: &mut [B],
+) -> Option<Place>
+    requires { Left (S.dwords source.now) at st (length (B.dwords records.old)) × StartsWith st.chip (S.dwords source.now) at k d }
+    ensures { (rest_of B.stored (S.dwords source.now) result (lent_buffer B.dwords records.new)
+        ≡ records_from B.stored (S.dwords source.now) at st (lent_buffer B.dwords records.old))
+        × GoesOn (S.dwords source.now) (at + 1) (length (B.dwords records.old)) result }
 {
     if k == 5 {
-        let first = record_as(dw, by, at, 5, d, st, rd, rb);
-        return and_again(dw, by, 5, d, first, rd, rb);
+        return record_all::<S, B, 5>(source, at, d, st, records);
     }
     if k == 4 {
-        let first = record_as(dw, by, at, 4, d, st, rd, rb);
-        return and_again(dw, by, 4, d, first, rd, rb);
+        return record_all::<S, B, 4>(source, at, d, st, records);
     }
     if k == 6 {
-        let first = record_as(dw, by, at, 6, d, st, rd, rb);
-        return and_again(dw, by, 6, d, first, rd, rb);
+        return record_all::<S, B, 6>(source, at, d, st, records);
     }
     if k == 8 {
-        let first = record_as(dw, by, at, 8, d, st, rd, rb);
-        return and_again(dw, by, 8, d, first, rd, rb);
+        return record_all::<S, B, 8>(source, at, d, st, records);
     }
-    record_as(dw, by, at, k, d, st, rd, rb)
+    record_as(source, at, k, d, st, records)
 }
 
-// Writes the record of the command at a place, and of those after it that start with the same dword. A kind that is a constant in the call
-// gets code of its own.
-fn record_at(dw: &[u32], by: &[u8], at: usize, st: State, rd: &mut [u32], rb: &mut [u8]) -> Place
-    requires { Left (lent dw.now by.now) at st (length (lent rd.old rb.old)) }
-    ensures { (rest_of (lent dw.now by.now) result (lent_buffer rd.new rb.new)
-        ≡ records_from (lent dw.now by.now) at st (lent_buffer rd.old rb.old))
-        × GoesOn (lent dw.now by.now) (at + 1) (length (lent rd.old rb.old)) result }
+// Writes the record of the command at a place, and of those after it that start with the same dword.
+#[inline(always)]
+fn record_at<S: Element, B: Element>(
+    source: &[S],
+    at: usize,
+    st: State,
+    records: &mut [B],
+) -> Option<Place>
+    requires { Left (S.dwords source.now) at st (length (B.dwords records.old)) }
+    ensures { (rest_of B.stored (S.dwords source.now) result (lent_buffer B.dwords records.new)
+        ≡ records_from B.stored (S.dwords source.now) at st (lent_buffer B.dwords records.old))
+        × GoesOn (S.dwords source.now) (at + 1) (length (B.dwords records.old)) result }
 {
-    let d = word(dw, by, at);
+    let d = S::word(source, at);
     let chip = st.chip;
     let k = kind(chip, d);
     if k == 7 {
-        let first = record_as(dw, by, at, 7, d, st, rd, rb);
-        return and_again(dw, by, 7, d, first, rd, rb);
+        return record_all::<S, B, 7>(source, at, d, st, records);
     }
     if k == 0 {
-        let first = record_as(dw, by, at, 0, d, st, rd, rb);
-        return and_again(dw, by, 0, d, first, rd, rb);
+        return record_all::<S, B, 0>(source, at, d, st, records);
     }
     if k == 3 {
-        return record_as(dw, by, at, 3, d, st, rd, rb);
+        return record_as(source, at, 3, d, st, records);
     }
-    record_other(dw, by, at, k, d, st, rd, rb)
+    record_other(source, at, k, d, st, records)
 }
 
 // The second pass: the record of each command of a batch that passed.
-pub fn fill(target: Target, dw: &[u32], by: &[u8], rd: &mut [u32], rb: &mut [u8])
-    requires { Fits target (lent dw.now by.now) (length (lent rd.old rb.old)) }
-    ensures { lent_buffer rd.new rb.new
-        ≡ recorded put_in target (lent dw.now by.now) (lent_buffer rd.old rb.old) }
+#[inline(never)]
+pub fn fill<S: Element, B: Element>(target: Target, source: &[S], records: &mut [B])
+    requires { Fits target (S.dwords source.now) (length (B.dwords records.old)) }
+    ensures { lent_buffer B.dwords records.new
+        ≡ recorded (put_in B.stored) target (S.dwords source.now) (lent_buffer B.dwords records.old) }
 {
     let mut at: usize = 0;
     let mut st = start(target);
     // END stands before the batch ends: without a test of its length the number of the VFE in force stays in a register
-    loop {
-        match record_at(dw, by, at, st, rd, rb) {
-            Place::Done => {
-                return;
-            }
-            Place::From { at: to, st: next } => {
-                at = to;
-                st = next;
-            }
-        }
+    while let Some(next) = record_at(source, at, st, records) {
+        at = next.at;
+        st = next.st;
     }
 }

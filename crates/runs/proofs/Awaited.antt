@@ -6,6 +6,7 @@ use Prim.Native.Nat.{ℕ, ◌<◌, ◌≤◌}
 use native.Mathlib.Omega.{arith}
 use lib.Dec.{ltb}
 use borrow.Author.Tests.{lt-ltb, ltb-true, ltb-false}
+use Rattle.std.specs.Prelude.{Option, Some, None, unwrap_or, is_some}
 use Rattle.laws.specs.Find.{find_first, NoneBelow}
 use Rattle.laws.proofs.Choices.{by_test, and_left, and_right}
 use Rattle.laws.proofs.Find.{find_at, find_before, found}
@@ -15,14 +16,18 @@ use Rattle.objects.specs.Recorded.{word_at, is_object, RecordIn, objects_recorde
 use Rattle.objects.proofs.Numbers.{holds_known, held, holds_number, holds_before, number_holds, number_less}
 use Rattle.awaited.specs.Search.{unfinished_at, unfinished_record, awaited_record, StatesIn}
 use Rattle.awaited.proofs.Searched.{and_false_left, and_false_right, finished_unawaited, find_most}
-use Rattle.runs.specs.declared.Verdict.{Verdict}
-use Rattle.runs.specs.Run.{waits_for, lowest_waited, fault, no_fault}
+use Rattle.runs.specs.Run.{Verdict, waits_for, lowest_waited, fault, no_fault}
 use Rattle.runs.specs.Starts.{wait_verdict, Known}
 use Rattle.runs.proofs.Searches.{known_small, waits_by_delta, delta_lowest, waits_none}
 
--- what `named` shows of record r
-pub named_is : (d : List ℕ) (c : Candidate) (r j i : ℕ) → j ≡ word_at d r 15 → i ≡ delta_to d c r → fault 25 j i ≡ fault 25 (word_at d r 15) (delta_to d c r)
-named_is d c r j i ej ei = ap₂ (fault 25) ej ei
+-- what `named` shows of record r: a delta leads there
+pub named_some : (d : List ℕ) (c : Candidate) (r : ℕ) (o : Option ℕ) → unwrap_or o 8 ≡ delta_to d c r → delta_to d c r < 8 → is_some o ≡ true
+named_some d c r (Some i) e h = refl
+named_some d c r None e h = absurd (omega (arith, e))
+
+pub named_is : (d : List ℕ) (c : Candidate) (r j i : ℕ) (o : Option ℕ) → j ≡ word_at d r 15 → unwrap_or o 8 ≡ delta_to d c r → o ≡ Some i
+    → fault 25 j i ≡ fault 25 (word_at d r 15) (delta_to d c r)
+named_is d c r j i o ej ei eo = ap₂ (fault 25) ej (sym (ap (λ (x : Option ℕ). unwrap_or x 8) eo) ∙ ei)
 
 -- the records that a search goes over have numbers of objects
 pub states_in : (d : List ℕ) (n : ℕ) (states : List ℕ) (k own : ℕ) → Known d n states k → Holds d n k own → StatesIn d states own
@@ -128,6 +133,10 @@ module _ (d : List ℕ) (n : ℕ) (states : List ℕ) (k own : ℕ) (h : Known d
           (λ q. let l = ltb-false r own q in
           let z : r ≡ own = omega (arith, search_most) in
           omega (arith, ap (λ (i : ℕ). word_at d i 15) z, holds_number d n h.numbered k own hk, known_small d n states k h))
+
+      pub search_delta : (r ≡ own → ⊥) → delta_to d t r < 8
+      search_delta z =
+          subst (λ (x : Candidate). delta_to d x r < 8) (sym et) (its_delta d n states k own h hk r search_is (omega (arith, search_most)))
 
       -- the search ended at its own record, or before it
       pub search_nobody : r ≡ own → no_fault ≡ wait_verdict (objects_recorded d n) states k

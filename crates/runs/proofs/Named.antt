@@ -7,10 +7,9 @@ use native.Mathlib.Omega.{arith}
 use lib.Dec.{T, ltb, leb, eqb}
 use lib.ListN.{length, get_or, set}
 use borrow.Author.Tests.{ltb-true, ltb-false, leb-true, eqb-true, eqb-false, eq-eqb, ne_eqb, lt-ltb, not-true, not-false}
-use Rattle.runs.specs.declared.Verdict.{Verdict}
 use Rattle.objects.specs.Objects.{Delta, Object, meets, object_at}
 use Rattle.laws.specs.Find.{find_first}
-use Rattle.runs.specs.Run.{state_at, waiting, starts, finishes, waits_for, lowest_waited, lowest_delta, lowest_waiting, rows, verdict_of, no_fault, after}
+use Rattle.runs.specs.Run.{Verdict, state_at, waiting, starts, finishes, waits_for, lowest_waited, lowest_delta, lowest_waiting, rows, verdict_of, no_fault, after}
 use Rattle.runs.specs.Waits.{Waits, Stalls, Blocks}
 use Rattle.laws.specs.Rows.{Row, row}
 use Rattle.laws.proofs.Rows.{holds_at, by_rows, no_row}

@@ -7,42 +7,27 @@ use Prim.Native.Nat.{ℕ, zero, suc, ◌+◌, ◌/◌, ◌<◌, ◌≤◌}
 use native.Mathlib.Numerals.{add-one}
 use native.Mathlib.Omega.{arith}
 use lib.Dec.{eqb}
-use lib.ListN.{length, get_or, set, drop, replicate, length-replicate, drop_of_length-le}
-use lib.Seq.{drop-cons, set_at, get_or-set_other}
+use lib.ListN.{length, get_or, set, drop, replicate, drop_of_length-le}
+use lib.Seq.{drop-cons, get_or-set_other}
 use borrow.Author.Tests.{eqb-true, eqb-false, ne_eqb, leb-false}
 use Rattle.laws.specs.Find.{NoneBelow}
 use Rattle.laws.proofs.Choices.{by_test, not_both}
-use Rattle.runs.specs.declared.Verdict.{Verdict}
 use Rattle.runs.specs.declared.Cursors.{Cursors}
 use Rattle.objects.specs.Objects.{Object}
 use Rattle.objects.specs.Recorded.{word_at, is_object}
-use Rattle.runs.specs.Run.{state_at, unfinished, starts, state_left, no_fault, verdict_of, after, Ran, run_from, begun}
-use Rattle.runs.specs.Starts.{SoundCursors, first_cursors}
+use Rattle.runs.specs.Run.{Verdict, state_at, unfinished, starts, state_left, no_fault, verdict_of, after, Ran, run_from, begun}
+use Rattle.std.specs.Prelude.{Result, Ok, IfOk}
+use Rattle.runs.specs.declared.Fault.{Fault}
+use Rattle.runs.specs.Starts.{SoundCursors, first_cursors, judged, Judges}
 use Rattle.awaited.specs.Search.{unfinished_at, unfinished_record}
 use Rattle.runs.proofs.Named.{passes_known, passes_start}
 use Rattle.runs.proofs.Runs.{run_on, run_off}
 use Rattle.objects.proofs.Numbers.{spot_first}
 
 -- the states as they begin
-pub begun_first : (l : List ℕ) → l ≡ replicate 0 0 ++ drop 0 l
-begun_first l = refl
-
-replicate_one : (i : ℕ) (ys : List ℕ) → replicate i 0 ++ 0 ∷ ys ≡ replicate (suc i) 0 ++ ys
-replicate_one zero ys = refl
-replicate_one (suc i) ys = ap (λ (r : List ℕ). 0 ∷ r) (replicate_one i ys)
-
-pub begun_next : (l x : List ℕ) (n i : ℕ) → n ≤ length l → i < n → x ≡ replicate i 0 ++ drop i l → set x i 0 ≡ replicate (i + 1) 0 ++ drop (i + 1) l
-begun_next l x n i h p e =
-    ap (λ (y : List ℕ). set y i 0) (e ∙ ap (λ (r : List ℕ). replicate i 0 ++ r) (drop-cons l i 0 (omega arith)))
-    ∙ set_at (replicate i 0) (get_or l i 0) (drop (suc i) l) 0 i (length-replicate i 0)
-    ∙ replicate_one i (drop (suc i) l)
-    ∙ ap (λ (k : ℕ). replicate k 0 ++ drop k l) (sym (add-one i))
-
-pub begun_last : (l x : List ℕ) (n i : ℕ) → n ≤ i → i ≤ n → x ≡ replicate i 0 ++ drop i l → x ≡ begun n l
+pub begun_filled : (l x : List ℕ) (n m : ℕ) → x ≡ replicate m 0 → m ≡ n → x ++ drop n l ≡ begun n l
 unfolding begun
-begun_last l x n i p q e = let z : i ≡ n = omega arith in e ∙ ap (λ (k : ℕ). replicate k 0 ++ drop k l) z
-
-pub ruleset begun_laws = (begun_first, begun_next, begun_last)
+begun_filled l x n m e q = ap (λ (y : List ℕ). y ++ drop n l) (e ∙ ap (λ (k : ℕ). replicate k 0) q)
 
 -- a cursor stays sound when the state of an object changes, if what it says of that object still holds
 set_either : (states : List ℕ) (k v : ℕ) → (state_at (set states k v) k ≡ v) ⊎ (state_at (set states k v) k ≡ state_at states k)
@@ -62,6 +47,11 @@ none_set f states k v j off new i h = go (eqb i k) refl
         at : k < j → (state_at (set states k v) k ≡ v) ⊎ (state_at (set states k v) k ≡ state_at states k) → f (state_at (set states k v) k) ≡ false
         at l (inl p) = ap f p ∙ new l
         at l (inr p) = ap f p ∙ off k l
+
+-- an event with no fault
+pub judged_ok : (d : List ℕ) (n : ℕ) (states : List ℕ) (v : Verdict) (r : Result Cursors Fault) (c : Cursors) → Judges d n states v r → r ≡ Ok c
+    → (no_fault ≡ v) × SoundCursors d n states c
+judged_ok d n states v r c h e = (sym (ap judged e) ∙ h.verdict, subst (λ (x : Result Cursors Fault). IfOk x (SoundCursors d n states)) e h.cursors)
 
 module _ (objects : List Object) (states : List ℕ) (e : ℕ) (v : Verdict) (ev : v ≡ verdict_of objects states e) where
   abbrev k : ℕ

@@ -2,58 +2,33 @@
 use mathlib.Core.Path.{◌≡◌, refl, sym, ap, ap₂, subst, ◌∙◌}
 use mathlib.Core.Bool.{Bool, true, false, not, cond, ◌&&◌}
 use mathlib.Core.List.{List, [], map, Memᴰ}
-use Prim.Native.Nat.{ℕ, ◌+◌, ◌<◌, ◌≤◌, min}
+use Prim.Native.Nat.{ℕ, ◌<◌, ◌≤◌}
 use native.Mathlib.Omega.{arith}
 use lib.Dec.{ltb, eqb}
-use lib.ListN.{get_or}
-use borrow.Author.Tests.{eq-eqb, ne_eqb, lt-ltb, le-ltb}
+use lib.ListN.{length}
+use borrow.Author.Tests.{lt-ltb, le-ltb}
 use Rattle.laws.specs.BitRanges.{field}
 use Rattle.laws.specs.Find.{find_first, NoneBelow}
-use Rattle.laws.proofs.Find.{none_next, found, none}
+use Rattle.laws.proofs.Find.{none}
 use Rattle.awaited.specs.Search.{unfinished_at}
-use Rattle.runs.specs.declared.Verdict.{Verdict}
 use Rattle.deltas.specs.InPlay.{bit_set, those, eight, joined_mask}
 use Rattle.deltas.proofs.Masks.{joined_set}
 use Rattle.objects.specs.Objects.{Delta, Object, meets, delta_at, object_with, object_at}
-use Rattle.runs.specs.Run.{state_at, some_of, lowest_of, waits_for, lowest_waited, lowest_delta, lowest_waiting, no_fault}
-use Rattle.objects.specs.Recorded.{word_at, vfe_word_at, object_recorded, objects_recorded, Holds, mask_at, candidate_of, delta_to}
-use Rattle.runs.specs.Starts.{wait_verdict, waiting_at, Known}
+use Rattle.runs.specs.Run.{Verdict, state_at, some_of, lowest_of, waits_for, lowest_waited, lowest_delta, no_fault}
+use Rattle.objects.specs.Recorded.{Records, Numbered, word_at, vfe_word_at, object_recorded, objects_recorded, Holds, mask_at, candidate_of, delta_to}
+use Rattle.runs.specs.Starts.{wait_verdict, Known}
 use Rattle.runs.proofs.Waits.{object_eight}
 use Rattle.runs.proofs.Lowest.{lowest_at_lem, some_below}
 use Rattle.objects.proofs.Numbers.{objects_few}
 
+-- what is known of object k, by what is recorded
+pub known_of : (d : List ℕ) (n count k : ℕ) (states : List ℕ) → Records d n → Numbered d n → count ≡ length (objects_recorded d n) → k < count → count ≤ length states
+    → Known d n states k
+known_of d n count k states r m e h l = record { records = r; numbered = m; object = omega (arith, e, h); room = omega (arith, e, l) }
+
 -- an object's number is small
 pub known_small : (d : List ℕ) (n : ℕ) (states : List ℕ) (k : ℕ) → Known d n states k → k < 16384
 known_small d n states k h = omega (arith, objects_few d 0 n, h.object, h.records.limit)
-
--- the lowest in state 0; s is the state that was read
-module _ (states : List ℕ) (k j s : ℕ) (off : NoneBelow (waiting_at states) j) (h : j < k) (es : s ≡ get_or states j 0) where
-  pub waiting_found : s ≡ 0 → min j k ≡ lowest_waiting states k
-  unfolding lowest_waiting
-  waiting_found e =
-      let m : min j k ≡ j = omega arith in m ∙ sym (found (waiting_at states) k j h off (eq-eqb (state_at states j) 0 (sym es ∙ e)))
-
-  pub waiting_next : (s ≡ 0 → ⊥) → NoneBelow (waiting_at states) (j + 1)
-  waiting_next n = none_next (waiting_at states) j off (ne_eqb (state_at states j) 0 (λ e. n (es ∙ e)))
-
-pub waiting_none : (states : List ℕ) (k j : ℕ) → NoneBelow (waiting_at states) j → k ≤ j → min j k ≡ lowest_waiting states k
-unfolding lowest_waiting
-waiting_none states k j off h = let m : min j k ≡ k = omega arith in m ∙ sym (none (waiting_at states) k j h off)
-
-pub ruleset waiting_laws = (waiting_found, waiting_next, waiting_none)
-
--- the first unfinished
-module _ (states : List ℕ) (k j s : ℕ) (off : NoneBelow (unfinished_at states) j) (h : j < k) (es : s ≡ get_or states j 0) where
-  pub unfinished_found : (s ≡ 2 → ⊥) → j ≡ find_first k (unfinished_at states)
-  unfinished_found n = sym (found (unfinished_at states) k j h off (ap not (ne_eqb (state_at states j) 2 (λ e. n (es ∙ e)))))
-
-  pub unfinished_next : s ≡ 2 → NoneBelow (unfinished_at states) (j + 1)
-  unfinished_next e = none_next (unfinished_at states) j off (ap not (eq-eqb (state_at states j) 2 (sym es ∙ e)))
-
-pub unfinished_none : (states : List ℕ) (k j : ℕ) → NoneBelow (unfinished_at states) j → j ≤ k → k ≤ j → j ≡ find_first k (unfinished_at states)
-unfinished_none states k j off p q = let e : j ≡ k = omega arith in e ∙ sym (none (unfinished_at states) k j q off)
-
-pub ruleset unfinished_laws = (unfinished_found, unfinished_next, unfinished_none)
 
 -- the tests of the code, against those of the definition: p says that the other is finished
 below_8 : (p u e : Bool) (l : ℕ) → not p && u && e && ltb l 8 ≡ not p && ltb (cond (u && e) l 8) 8

@@ -8,16 +8,14 @@ use lib.Dec.{T, ltb, leb, eqb}
 use lib.ListN.{length, get_or}
 use borrow.Author.Tests.{eq-eqb, ne_eqb, lt-ltb, le-ltb, ltb-true, ltb-false, le-leb, lt-leb, leb-true}
 use Rattle.laws.specs.Find.{NoneBelow}
-use Rattle.runs.specs.declared.Verdict.{Verdict}
 use Rattle.awaited.specs.declared.Stretch.{Stretch}
 use Rattle.awaited.specs.Search.{unfinished_at, Crossed}
 use Rattle.runs.specs.declared.Cursors.{Cursors}
 use Rattle.objects.specs.declared.Spot.{Spot}
-use Rattle.runs.specs.declared.Judgement.{Judgement}
 use Rattle.objects.specs.Objects.{Object, object_with, object_at}
-use Rattle.runs.specs.Run.{state_at, lowest_waiting, fault, no_fault, verdict_of}
+use Rattle.runs.specs.Run.{Verdict, state_at, lowest_waiting, fault, no_fault, verdict_of}
 use Rattle.objects.specs.Recorded.{object_recorded, objects_recorded, Spotted, Holds, stalls_at}
-use Rattle.runs.specs.Starts.{wait_verdict, start_verdict, nearest_of, SoundCursors, Judges}
+use Rattle.runs.specs.Starts.{wait_verdict, start_verdict, nearest_of, SoundCursors}
 
 pub nearest_last : (c : Cursors) (k : ℕ) → c.last.object ≤ k → c.last ≡ nearest_of c k
 unfolding nearest_of
@@ -92,11 +90,10 @@ module _ (d : List ℕ) (n : ℕ) (states : List ℕ) (k own : ℕ) (b : Bool) (
         off_24 v (row_24 ∙ ap₂ ◌&&◌ q (le-ltb (lowest_waiting states k) k m)) e
 
 -- where the next start goes on
-module _ (d : List ℕ) (n : ℕ) (states : List ℕ) (c x : Cursors) (h : SoundCursors d n states c) where
-  pub searched_sound : (u at : ℕ) (s : Stretch) → x ≡ record { waiting = c.waiting; unfinished = record { object = u; at = at }; last = c.last; crossed = s }
-      → NoneBelow (unfinished_at states) u → Holds d n u at → Crossed d states s → SoundCursors d n states x
-  searched_sound u at s e off hu k =
-      subst (SoundCursors d n states) (sym e) (record { started = h.started; finished = off; first = hu.spot; latest = h.latest; crossed = k })
+module _ (d : List ℕ) (n : ℕ) (states : List ℕ) (c : Cursors) (h : SoundCursors d n states c) where
+  pub searched_sound : (u at : ℕ) (s : Stretch) → NoneBelow (unfinished_at states) u → Holds d n u at → Crossed d states s
+      → SoundCursors d n states (record { waiting = c.waiting; unfinished = record { object = u; at = at }; last = c.last; crossed = s })
+  searched_sound u at s off hu k = record { started = h.started; finished = off; first = hu.spot; latest = h.latest; crossed = k }
 
 -- the rows of an event e: N is the number of objects, s the state of its object
 module _ (objects : List Object) (states : List ℕ) (e N : ℕ) (en : N ≡ length objects) where
@@ -128,10 +125,4 @@ module _ (objects : List Object) (states : List ℕ) (e N : ℕ) (en : N ≡ len
       unfolding verdict_of start_verdict wait_verdict
       row_start v q ev = ev ∙ simp (known, even, ne_eqb (e % 2) 1 o, eq-eqb (get_or states (e / 2) 0) 0 (sym es ∙ q))
 
--- a verdict that names nobody
-pub unnamed_judges : (d : List ℕ) (n : ℕ) (states : List ℕ) (v : Verdict) (r : Judgement) (m : ℕ) (c : Cursors) → r ≡ record { verdict = fault m 0 0; cursors = c }
-    → SoundCursors d n states c → fault m 0 0 ≡ v → Judges d n states v r
-unnamed_judges d n states v r m c e s q =
-    record { verdict = ap (λ (x : Judgement). x.verdict) e ∙ q; cursors = subst (λ (x : Judgement). SoundCursors d n states x.cursors) (sym e) s }
-
-pub ruleset row_laws = (row_21, row_22, row_23, row_finish, row_start, unnamed_judges)
+pub ruleset row_laws = (row_21, row_22, row_23, row_finish, row_start)

@@ -1,9 +1,11 @@
 -- Who waits for whom, and a run: document 01, "Who waits for whom". An object and its state are found by the object's number.
-use Rattle.std.specs.Prelude.{ℕ, ◌+◌, ◌/◌, ◌%◌, min, Bool, false, not, cond, ◌&&◌, ◌||◌, List, [], ◌∷◌, ◌++◌, ltb, leb, eqb, length, get_or, set, drop, replicate}
+use Rattle.std.specs.Prelude.{ℕ, ◌+◌, ◌/◌, ◌%◌, min, Bool, false, not, cond, ◌&&◌, ◌||◌, List, [], ◌∷◌, ◌++◌, ltb, leb, eqb, length, get_or, set, drop, replicate, Result, Ok, Err}
 use Rattle.laws.specs.Rows.{Row, row, first_row}
 use Rattle.laws.specs.Find.{find_first}
 use Rattle.objects.specs.Objects.{Delta, Object, meets, object_at}
-use Rattle.runs.specs.declared.Verdict.{Verdict}
+use Rattle.runs.specs.declared.Fault.{Fault}
+use Rattle.runs.specs.declared.Fault.TheVariants.{NoObject, NotWaiting, NotRunning, Stalls, Waits}
+use Rattle.runs.specs.declared.Stopped.{Stopped}
 
 -- "states begin 0 (waiting; 1 running, 2 finished)"
 abbrev pub waiting : ℕ → Bool
@@ -61,11 +63,24 @@ abbrev pub finishes : ℕ → Bool
 finishes e = eqb (e % 2) 1
 
 -- what is wrong with an event: the number, and the object and the delta that it names, 0 where it names none
+pub record Verdict : Type 0 where
+  pub number : ℕ
+  pub object : ℕ
+  pub delta : ℕ
+
 abbrev pub fault : ℕ → ℕ → ℕ → Verdict
 fault n j d = record { number = n; object = j; delta = d }
 
 abbrev pub no_fault : Verdict
 no_fault = fault 0 0 0
+
+-- the number of each of the code's faults, and what it names
+abbrev pub numbered : Fault → Verdict
+numbered NoObject = fault 21 0 0
+numbered NotWaiting = fault 22 0 0
+numbered NotRunning = fault 23 0 0
+numbered (Stalls j) = fault 24 j 0
+numbered (Waits j d) = fault 25 j d
 
 -- The rows of an event e, which starts or finishes the object k; the first that holds decides.
 module _ (objects : List Object) (states : List ℕ) (e : ℕ) where
@@ -114,6 +129,11 @@ run_from objects (e ∷ es) i states =
     cond (eqb (verdict_of objects states e).number 0)
     (run_from objects es (i + 1) (after states e))
     (record { verdict = verdict_of objects states e; position = i; states = states })
+
+-- what the code answers of a run, and the states that it leaves
+abbrev pub ended : Result ℕ Stopped → List ℕ → Ran
+ended (Ok n) states = record { verdict = no_fault; position = n; states = states }
+ended (Err e) states = record { verdict = numbered e.fault; position = e.position; states = states }
 
 -- "states begin 0"; "State bytes past the objects never change": there are n objects
 unfoldable pub begun : ℕ → List ℕ → List ℕ

@@ -1,16 +1,15 @@
 -- A run as the code checks it: what its steps count on, rows 24 and 25 in two steps, and what is carried from one start to the next.
 -- `row_start` of proofs/StartRows.antt shows that the steps are the rows. Below, d are the dwords of the record buffer, which holds n
 -- records.
-use Rattle.std.specs.Prelude.{◌≡◌, ℕ, ◌<◌, ◌≤◌, Bool, cond, ◌&&◌, List, ltb, leb, eqb, length}
+use Rattle.std.specs.Prelude.{◌≡◌, ℕ, ◌<◌, ◌≤◌, Bool, cond, ◌&&◌, List, ltb, leb, eqb, length, Result, Ok, Err, IfOk}
 use Rattle.laws.specs.Find.{NoneBelow}
 use Rattle.objects.specs.declared.Spot.{Spot}
 use Rattle.objects.specs.Objects.{Object, object_at}
 use Rattle.objects.specs.Recorded.{Records, Numbered, objects_recorded, Spotted}
 use Rattle.awaited.specs.Search.{unfinished_at, Crossed}
-use Rattle.runs.specs.declared.Verdict.{Verdict}
+use Rattle.runs.specs.declared.Fault.{Fault}
 use Rattle.runs.specs.declared.Cursors.{Cursors}
-use Rattle.runs.specs.declared.Judgement.{Judgement}
-use Rattle.runs.specs.Run.{state_at, waiting, lowest_waited, lowest_delta, lowest_waiting, fault, no_fault}
+use Rattle.runs.specs.Run.{Verdict, state_at, waiting, lowest_waited, lowest_delta, lowest_waiting, fault, no_fault, numbered}
 
 -- row 25
 unfoldable pub wait_verdict : List Object → List ℕ → ℕ → Verdict
@@ -27,14 +26,7 @@ start_verdict objects states k =
 abbrev pub waiting_at : List ℕ → ℕ → Bool
 waiting_at states j = waiting (state_at states j)
 
--- the records hold so many objects, and each has a state byte
-pub record Running (d : List ℕ) (n objects : ℕ) (states : List ℕ) : Type 0 where
-  pub records : Records d n
-  pub numbered : Numbered d n
-  pub count : objects ≡ length (objects_recorded d n)
-  pub room : objects ≤ length states
-
--- object k is one of them
+-- object k is one of those recorded, and each has a state byte
 pub record Known (d : List ℕ) (n : ℕ) (states : List ℕ) (k : ℕ) : Type 0 where
   pub records : Records d n
   pub numbered : Numbered d n
@@ -65,7 +57,12 @@ first_cursors =
 unfoldable pub nearest_of : Cursors → ℕ → Spot
 nearest_of c k = cond (leb c.last.object k) c.last c.unfinished
 
--- the verdict is v, and the cursors are sound for the next start
-pub record Judges (d : List ℕ) (n : ℕ) (states : List ℕ) (v : Verdict) (r : Judgement) : Type 0 where
-  pub verdict : r.verdict ≡ v
-  pub cursors : SoundCursors d n states r.cursors
+-- the verdict of what the code answers of an event
+abbrev pub judged : Result Cursors Fault → Verdict
+judged (Ok c) = no_fault
+judged (Err f) = numbered f
+
+-- the verdict is v; where that is no fault, the cursors are sound for the next start
+pub record Judges (d : List ℕ) (n : ℕ) (states : List ℕ) (v : Verdict) (r : Result Cursors Fault) : Type 0 where
+  pub verdict : judged r ≡ v
+  pub cursors : IfOk r (SoundCursors d n states)

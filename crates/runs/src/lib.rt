@@ -7,34 +7,29 @@ use objects::Spot;
 pub mod events;
 mod starts;
 
-// What is wrong with an event: 21 to 25, with the object that 24 and 25 name and the delta that 25 names; else zeros.
-#[derive(Clone, Copy)]
-pub struct Verdict {
-    pub number: u32,
-    pub object: u32,
-    pub delta: u32,
+// What is wrong with an event, with the object that it names and the delta at it.
+#[derive(Clone, Copy, Debug, PartialEq, Eq)]
+pub enum Fault {
+    NoObject,
+    NotWaiting,
+    NotRunning,
+    Stalls { object: u32 },
+    Waits { object: u32, delta: u32 },
 }
 
-// How a run ended: the bad event's verdict and position, or no fault and the event count.
-#[derive(Clone, Copy)]
-pub struct RunEnd {
-    pub verdict: Verdict,
+// The bad event that stopped a run, by its position.
+#[derive(Clone, Copy, Debug, PartialEq, Eq)]
+pub struct Stopped {
+    pub fault: Fault,
     pub position: usize,
 }
 
 // Where the searches of the next start go on: no object below `waiting` is in state 0, every object below `unfinished` is finished, `last`
 // was the last to start, and `crossed` is the stretch that was crossed last.
-#[derive(Clone, Copy)]
+#[derive(Clone, Copy, Default)]
 pub struct Cursors {
     pub waiting: usize,
     pub unfinished: Spot,
     pub last: Spot,
     pub crossed: Stretch,
-}
-
-// A verdict, and where the next start goes on.
-#[derive(Clone, Copy)]
-pub struct Judgement {
-    pub verdict: Verdict,
-    pub cursors: Cursors,
 }

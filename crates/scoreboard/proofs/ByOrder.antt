@@ -11,8 +11,7 @@ use Rattle.chips.specs.declared.Target.{Target}
 use Rattle.words.specs.Dwords.{dwords_of, put_le}
 use Rattle.laws.proofs.Choices.{by_cond, two_cond}
 use Rattle.command.specs.Order.{object_count}
-use Rattle.reading.specs.declared.Scanned.{Scanned}
-use Rattle.reading.specs.declared.Scanned.TheVariants.{Stopped, Ended}
+use Rattle.reading.specs.Decision.{Scanned, Stopped, Ended}
 use Rattle.reading.specs.Reading.{reading_of}
 use Rattle.reading.specs.Decision.{decided, decision_of}
 use Rattle.reading.proofs.Decided.{by_decided}

@@ -17,11 +17,10 @@ use Rattle.words.specs.Dwords.{dwords_of, put_le}
 use Rattle.command.specs.Order.{Command}
 use Rattle.records.specs.Records.{recorded}
 use Rattle.reading.specs.Vfes.{command_number}
-use Rattle.reading.specs.declared.Scanned.{Scanned}
-use Rattle.reading.specs.declared.Scanned.TheVariants.{Stopped, Ended}
+use Rattle.reading.specs.Decision.{Scanned, Stopped, Ended}
 use Rattle.reading.specs.Reading.{reading_of}
 use Rattle.objects.specs.Objects.{Delta, Object, object_of, objects_of, object_at}
-use Rattle.runs.specs.declared.Verdict.{Verdict}
+use Rattle.runs.specs.Run.{Verdict}
 use Rattle.runs.specs.Run.{verdict_of, Ran, begun, ran}
 use Rattle.runs.specs.Waits.{Stalls, Blocks}
 use Rattle.runs.proofs.Waits.{object_eight}

@@ -1,40 +1,42 @@
 -- The core of the order check, and each entry from it. Assumes nothing.
 use mathlib.Core.Path.{◌≡◌, refl, sym, ap, ap₂, subst, ◌∙◌}
 use mathlib.Core.Bool.{Bool, true, false, cond}
-use mathlib.Core.List.{List, []}
+use mathlib.Core.List.{List}
 use Prim.Native.Nat.{ℕ, ◌*◌, ◌/◌, ◌%◌, ◌<◌, ◌≤◌}
 use native.Mathlib.Omega.{arith}
 use lib.Dec.{ltb}
 use lib.ListN.{length, set}
 use borrow.Author.Tests.{eq-eqb, ne_eqb, lt-ltb, le-ltb}
 use Rattle.chips.specs.declared.Chip.{Chip}
-use Rattle.chips.specs.declared.Named.{Named}
-use Rattle.chips.specs.declared.Named.TheVariants.{Unknown, Known}
+use Rattle.chips.specs.declared.Refusal.{Refusal}
 use Rattle.chips.specs.declared.Target.{Target}
 use Rattle.chips.specs.Chips as chips
 use Rattle.chips.specs.Chips.{named_by}
 use Rattle.chips.proofs.Chips.{chip_unknown, chip_known}
-use Rattle.words.specs.Dwords.{dwords_of, dwords_in, put_le, Buffer, buffer, put_in}
-use Rattle.words.proofs.Dwords.{in_none, in_dwords, length_dwords}
+use Rattle.words.specs.Dwords.{dwords_of, put_le, Buffer, lent_buffer, put_in}
+use Rattle.words.proofs.Dwords.{held_bytes}
 use Rattle.command.specs.Order.{Command}
-use Rattle.reading.specs.declared.Scanned.{Scanned}
-use Rattle.reading.specs.declared.Scanned.TheVariants.{Stopped, Ended}
+use Rattle.reading.specs.Decision.{Scanned, Ended}
 use Rattle.reading.specs.Reading.{reading_of}
 use Rattle.reading.specs.Decision.{decided, decision_of}
 use Rattle.records.specs.Records.{recorded}
 use Rattle.reading.proofs.Decisions.{by_refusal, by_success, fits_limit, fits_records, fits_commands, fits_objects, map_decided}
-use Rattle.records.proofs.Buffers.{written_view, written_bytes}
+use Rattle.records.proofs.Buffers.{written_view, written_items}
 use Rattle.reading.proofs.Counts.{passed_count}
 use Rattle.reading.proofs.Vfes.{under_vfe}
 use Rattle.records.proofs.Slots.{written_length}
 use Rattle.objects.specs.Objects.{Object}
-use Rattle.objects.specs.Recorded.{Numbered, objects_recorded}
+use Rattle.objects.specs.Recorded.{Records, Numbered, objects_recorded}
 use Rattle.objects.proofs.RecordedObjects.{objects_count, recorded_objects, recorded_numbers}
-use Rattle.runs.specs.declared.RunEnd.{RunEnd}
-use Rattle.runs.specs.Run.{Ran, run_from, begun, ran}
-use Rattle.runs.specs.Starts.{Running}
+use Rattle.std.specs.Prelude as prelude
+use Rattle.reading.specs.declared.Extent.{Extent}
+use Rattle.reading.specs.declared.Refused as reading
+use Rattle.reading.specs.Decision.{found}
+use Rattle.runs.specs.declared.Stopped as runs
+use Rattle.runs.specs.Run.{Ran, run_from, begun, ran, no_fault, numbered, ended}
 use Rattle.scoreboard.specs.declared.Answer.{Answer}
-use Rattle.scoreboard.specs.Answers.{objects_in, refused_answer, ran_answer, Result, refused_result, ran_result, accepted_result, order_in, buffer_order_of, order_for, bytes_order_for, order_of, bytes_order_of}
+use Rattle.scoreboard.specs.declared.Failure.TheVariants as failure
+use Rattle.scoreboard.specs.Answers.{objects_in, refused_answer, ran_answer, failure_answer, Result, refused_result, ran_result, accepted_result, order_in, buffer_order_of, order_for, bytes_order_for, order_of, bytes_order_of}
 
 -- an accepted batch has as many objects as the first pass counts
 module _ (target : Target) (room : ℕ) (b : List ℕ) (w : Scanned) (c d o : ℕ) (ew : w ≡ decision_of target room b) (e : w ≡ Ended c d o) where
@@ -71,63 +73,82 @@ module _ (target : Target) (room : ℕ) (b : List ℕ) (w : Scanned) (c d o : �
     filled_numbers =
         subst (λ (x : List ℕ). Numbered x c) (sym ef) (subst (Numbered (recorded set target b r)) commands_are (recorded_numbers target b r room_left))
 
-    filled_running : (s : List ℕ) → o ≤ length s → Running r' c o s
-    filled_running s h =
-        record {
-          records = record { room = filled_room; limit = filled_limit };
-          numbered = filled_numbers;
-          count = sym objects_are ∙ ap length (sym recorded_are);
-          room = h;
-        }
+    filled_records : Records r' c
+    filled_records = record { room = filled_room; limit = filled_limit }
+
+    filled_count : o ≡ length (objects_recorded r' c)
+    filled_count = sym objects_are ∙ ap length (sym recorded_are)
 
     filled_run : (run states s' : List ℕ) → s' ≡ begun o states → run_from (objects_recorded r' c) run 0 s' ≡ ran (objects_in target b) run states
     filled_run run states s' es =
         ap₂ (λ (x : List Object) (s : List ℕ). run_from x run 0 s) recorded_are (es ∙ ap (λ (m : ℕ). begun m states) (sym objects_are))
 
--- The core: L is the count of the record buffer's words, as the code has it.
-module _ (target : Target) (b run : List ℕ) (r : Buffer) (states : List ℕ) (L : ℕ) (el : L ≡ length r.view) (w : Scanned) (ew : w ≡ decision_of target L b) where
+-- what a run that has begun answers
+abbrev pub run_answer : prelude.Result ℕ runs.Stopped → Answer
+run_answer (prelude.Ok events) = ran_answer no_fault events
+run_answer (prelude.Err s) = ran_answer (numbered s.fault) s.position
+
+-- The core: L is the count of the record buffer's words, as the code has it, and x what the code finds of the batch.
+module _ {E : Type 0} (stored : List E → ℕ → ℕ → List E) (target : Target) (b run : List ℕ) (r : Buffer E) (states : List ℕ) (L : ℕ) (el : L ≡ length r.view)
+    (x : prelude.Result Extent reading.Refused) (ex : found x ≡ decision_of target L b) where
   abbrev d : List ℕ
   d = r.view
 
-  decides : w ≡ decision_of target (length d) b
-  decides = ew ∙ ap (λ (x : ℕ). decision_of target x b) el
+  decides : found x ≡ decision_of target (length d) b
+  decides = ex ∙ ap (λ (n : ℕ). decision_of target n b) el
 
-  abbrev accepted : ℕ → ℕ → Result Buffer
-  accepted c d = accepted_result put_in target (length r.view) b run r states
+  abbrev accepted : ℕ → ℕ → Result (Buffer E)
+  accepted c d = accepted_result (put_in stored) target (length r.view) b run r states
 
-  pub core_refused : (m p : ℕ) (a : Answer) → w ≡ Stopped m p → a ≡ refused_answer m p → record { answer = a; records = r; states = states } ≡ buffer_order_of target b run r states
+  pub core_refused : (f : reading.Refused) → x ≡ prelude.Err f → record { answer = failure_answer (failure.Refused f); records = r; states = states } ≡ buffer_order_of stored target b run r states
   unfolding order_in
-  core_refused m p a e q =
-      by_refusal (refused_result r states) accepted target (length d) b w decides m p _ e (ap (λ (x : Answer). record { answer = x; records = r; states = states }) q)
+  core_refused f e = by_refusal (refused_result r states) accepted target (length d) b (found x) decides _ _ _ (ap found e) refl
 
-  module _ (c x o : ℕ) (e : w ≡ Ended c x o) where
-    count : length (objects_in target b) ≡ o
-    count = objects_are target L b w c x o ew e
+  module _ (e : Extent) (ok : x ≡ prelude.Ok e) where
+    ended_at : found x ≡ Ended e.commands e.dwords e.objects
+    ended_at = ap found ok
 
-    filled_view : (r' : Buffer) → r' ≡ recorded put_in target b r → r'.view ≡ recorded set target b d
-    filled_view r' er = ap (λ (y : Buffer). y.view) er ∙ written_view (reading_of target b).passed 0 r
+    count : length (objects_in target b) ≡ e.objects
+    count = objects_are target L b (found x) e.commands e.dwords e.objects ex ended_at
 
-    pub filled_known : (r' : Buffer) (s : List ℕ) → r' ≡ recorded put_in target b r → o ≤ length s → Running r'.view c o s
-    filled_known r' s er h = filled_running target L b w c x o ew e d r'.view el (filled_view r' er) s h
+    filled_view : (r' : Buffer E) → r' ≡ recorded (put_in stored) target b r → r'.view ≡ recorded set target b d
+    filled_view r' er = ap (λ (y : Buffer E). y.view) er ∙ written_view stored (reading_of target b).passed 0 r
 
-    pub core_short : (a : Answer) → length states < o → a ≡ refused_answer 20 0 → record { answer = a; records = r; states = states } ≡ buffer_order_of target b run r states
+    -- what the records hold once they are filled
+    module _ (r' : Buffer E) (er : r' ≡ recorded (put_in stored) target b r) where
+      pub records_are : Records r'.view e.commands
+      records_are = filled_records target L b (found x) e.commands e.dwords e.objects ex ended_at d r'.view el (filled_view r' er)
+
+      pub numbers_are : Numbered r'.view e.commands
+      numbers_are = filled_numbers target L b (found x) e.commands e.dwords e.objects ex ended_at d r'.view el (filled_view r' er)
+
+      pub count_is : e.objects ≡ length (objects_recorded r'.view e.commands)
+      count_is = filled_count target L b (found x) e.commands e.dwords e.objects ex ended_at d r'.view el (filled_view r' er)
+
+    pub core_short : length states < e.objects → record { answer = refused_answer 20 0; records = r; states = states } ≡ buffer_order_of stored target b run r states
     unfolding order_in
-    core_short a h q =
+    core_short h =
         let l : length states < length (objects_in target b) = let z = count in omega arith in
-        by_success (refused_result r states) accepted target (length d) b w decides c x o _ e
-        (ap (λ (y : Answer). record { answer = y; records = r; states = states }) q ∙ simp (lt-ltb (length states) (length (objects_in target b)) l))
+        by_success (refused_result r states) accepted target (length d) b (found x) decides e.commands e.dwords e.objects _ ended_at
+        (simp (lt-ltb (length states) (length (objects_in target b)) l))
 
-    pub core_ran : (a : Answer) (end : RunEnd) (r' : Buffer) (s s' : List ℕ) → o ≤ length states → r' ≡ recorded put_in target b r → s ≡ begun o states
-        → record { verdict = end.verdict; position = end.position; states = s' } ≡ run_from (objects_recorded r'.view c) run 0 s → a ≡ ran_answer end.verdict end.position
-        → record { answer = a; records = r'; states = s' } ≡ buffer_order_of target b run r states
+    pub core_ran : (a : Answer) (end : prelude.Result ℕ runs.Stopped) (r' : Buffer E) (s s' : List ℕ) → e.objects ≤ length states → r' ≡ recorded (put_in stored) target b r
+        → s ≡ begun e.objects states → ended end s' ≡ run_from (objects_recorded r'.view e.commands) run 0 s → a ≡ run_answer end
+        → record { answer = a; records = r'; states = s' } ≡ buffer_order_of stored target b run r states
     unfolding order_in
     core_ran a end r' s s' h er es ee ea =
         let l : length (objects_in target b) ≤ length states = let z = count in omega arith in
-        let f = ee ∙ filled_run target L b w c x o ew e d r'.view el (filled_view r' er) run states s es in
-        by_success (refused_result r states) accepted target (length d) b w decides c x o _ e
+        let f = ee ∙ filled_run target L b (found x) e.commands e.dwords e.objects ex ended_at d r'.view el (filled_view r' er) run states s es in
+        by_success (refused_result r states) accepted target (length d) b (found x) decides e.commands e.dwords e.objects _ ended_at
         (ap (λ (y : Answer). record { answer = y; records = r'; states = s' }) ea
-        ∙ ap₂ (λ (y : Buffer) (z : Ran). record { answer = ran_answer z.verdict z.position; records = y; states = z.states }) er f
+        ∙ go end
+        ∙ ap₂ (λ (y : Buffer E) (z : Ran). record { answer = ran_answer z.verdict z.position; records = y; states = z.states }) er f
         ∙ simp (le-ltb (length states) (length (objects_in target b)) l))
+      where
+        go : (z : prelude.Result ℕ runs.Stopped) → ◌≡◌ {A = Result (Buffer E)} (record { answer = run_answer z; records = r'; states = s' })
+            (record { answer = ran_answer (ended z s').verdict (ended z s').position; records = r'; states = (ended z s').states })
+        go (prelude.Ok m) = refl
+        go (prelude.Err m) = refl
 
 -- a result with another record buffer
 abbrev with_records : {B C : Type 0} → (B → C) → Result B → Result C
@@ -155,18 +176,19 @@ module _ {B C : Type 0} (put : B → ℕ → ℕ → B) (put' : C → ℕ → �
       map_decided (with_records f) (refused_result r states) (λ c d. accepted_result put target room b run r states) target room b
       ∙ ap (λ (y : Result C). decided (refused_result (f r) states) (λ c d. y) target room b) seen_accepted
 
--- the dword entry: the core with the bytes left empty
+-- each entry from the core
 module _ (target : Target) (b run r states : List ℕ) where
-  pub dwords_order : (a : Answer) (r' none s' : List ℕ) → length none ≡ 0
-      → record { answer = a; records = buffer r' none; states = s' } ≡ buffer_order_of target (dwords_in b []) (dwords_in run []) (buffer r []) states
+  -- over dwords
+  pub dwords_order : (a : Answer) (r' s' : List ℕ)
+      → record { answer = a; records = lent_buffer (λ (l : List ℕ). l) r'; states = s' } ≡ buffer_order_of set target b run (lent_buffer (λ (l : List ℕ). l) r) states
       → record { answer = a; records = r'; states = s' } ≡ order_for target b run r states
-  unfolding order_for dwords_in
-  dwords_order a r' none s' z e =
-      ap (λ (l : List ℕ). record { answer = a; records = l; states = s' }) (sym (in_dwords r' none z))
-      ∙ ap (with_records (λ (x : Buffer). x.view)) e
-      ∙ seen_order put_in set (λ (x : Buffer). x.view) target (length r) b run (buffer r []) states (written_view (reading_of target b).passed 0 (buffer r []))
+  unfolding order_for
+  dwords_order a r' s' e =
+      ap (with_records (λ (x : Buffer ℕ). x.items)) e
+      ∙ seen_order (put_in set) set (λ (x : Buffer ℕ). x.items) target (length r) b run (lent_buffer (λ (l : List ℕ). l) r) states
+      (written_items set (reading_of target b).passed 0 (lent_buffer (λ (l : List ℕ). l) r))
 
-  -- the byte entry: 17 of the batch
+  -- over bytes: 17 of the batch
   pub odd_batch : (a : Answer) → (length b % 4 ≡ 0 → ⊥) → a ≡ refused_answer 17 (length b / 4) → record { answer = a; records = r; states = states } ≡ bytes_order_for target b run r states
   unfolding bytes_order_for
   odd_batch a q e = ap (λ (x : Answer). record { answer = x; records = r; states = states }) e ∙ simp (ne_eqb (length b % 4) 0 q)
@@ -177,40 +199,37 @@ module _ (target : Target) (b run r states : List ℕ) where
     unfolding bytes_order_for
     odd_run a q e = ap (λ (x : Answer). record { answer = x; records = r; states = states }) e ∙ simp (eq-eqb (length b % 4) 0 p, ne_eqb (length run % 4) 0 q)
 
-    -- the core with the dwords left empty
-    module _ (q : length run % 4 ≡ 0) where
-      whole : buffer_order_of target (dwords_in [] b) (dwords_in [] run) (buffer [] r) states ≡ order_in put_in target (length r / 4) (dwords_of b) (dwords_of run) (buffer [] r) states
-      whole =
-          ap (λ (x : ℕ). order_in put_in target x (dwords_in [] b) (dwords_in [] run) (buffer [] r) states) (ap length (in_none r) ∙ length_dwords r)
-          ∙ ap₂ (λ (x y : List ℕ). order_in put_in target (length r / 4) x y (buffer [] r) states) (in_none b) (in_none run)
-
-      pub bytes_order : (a : Answer) (none r' s' : List ℕ)
-          → record { answer = a; records = buffer none r'; states = s' } ≡ buffer_order_of target (dwords_in [] b) (dwords_in [] run) (buffer [] r) states
-          → record { answer = a; records = r'; states = s' } ≡ bytes_order_for target b run r states
-      unfolding bytes_order_for
-      bytes_order a none r' s' e =
-          ap (with_records (λ (x : Buffer). x.bytes)) (e ∙ whole)
-          ∙ seen_order put_in put_le (λ (x : Buffer). x.bytes) target (length r / 4) (dwords_of b) (dwords_of run) (buffer [] r) states (written_bytes (reading_of target (dwords_of b)).passed 0 (buffer [] r))
-          ∙ simp (eq-eqb (length b % 4) 0 p, eq-eqb (length run % 4) 0 q)
+    -- whole dwords
+    pub bytes_order : (a : Answer) (r' s' : List ℕ) → length run % 4 ≡ 0
+        → record { answer = a; records = lent_buffer dwords_of r'; states = s' } ≡ buffer_order_of put_le target (dwords_of b) (dwords_of run) (lent_buffer dwords_of r) states
+        → record { answer = a; records = r'; states = s' } ≡ bytes_order_for target b run r states
+    unfolding bytes_order_for
+    bytes_order a r' s' q e =
+        ap (with_records (λ (x : Buffer ℕ). x.items)) (e ∙ ap (λ (n : ℕ). order_in (put_in put_le) target n (dwords_of b) (dwords_of run) (lent_buffer dwords_of r) states) (sym (held_bytes r)))
+        ∙ seen_order (put_in put_le) put_le (λ (x : Buffer ℕ). x.items) target (length r / 4) (dwords_of b) (dwords_of run) (lent_buffer dwords_of r) states
+        (written_items put_le (reading_of target (dwords_of b)).passed 0 (lent_buffer dwords_of r))
+        ∙ simp (eq-eqb (length b % 4) 0 p, eq-eqb (length run % 4) 0 q)
 
 -- what an entry shows, by what its chip number names: v is that
-module _ (chip capacity : ℕ) (b run r states : List ℕ) (v : Named) (e : v ≡ named_by chip) where
-  pub unknown_order : (a : Answer) → v ≡ Unknown → a ≡ refused_answer 18 0 → record { answer = a; records = r; states = states } ≡ order_of chip capacity b run r states
-  unfolding order_of
-  unknown_order a u q =
-      chip_unknown (refused_result r states) (λ c. order_for (chips.target_of c capacity) b run r states) chip v e _ u
-      (ap (λ (x : Answer). record { answer = x; records = r; states = states }) q)
+module _ (chip capacity : ℕ) (b run r states : List ℕ) (v : prelude.Result Chip Refusal) (e : v ≡ named_by chip) where
+  module _ (f : Refusal) (u : v ≡ prelude.Err f) (a : Answer) (q : a ≡ refused_answer 18 0) where
+    pub unknown_order : record { answer = a; records = r; states = states } ≡ order_of chip capacity b run r states
+    unfolding order_of
+    unknown_order =
+        chip_unknown (refused_result r states) (λ c. order_for (chips.target_of c capacity) b run r states) chip v e _ f u
+        (ap (λ (x : Answer). record { answer = x; records = r; states = states }) q)
 
-  pub known_order : (g : Result (List ℕ)) (c : Chip) → v ≡ Known c → g ≡ order_for (chips.target_of c capacity) b run r states → g ≡ order_of chip capacity b run r states
-  unfolding order_of
-  known_order g c k q = chip_known (refused_result r states) (λ c. order_for (chips.target_of c capacity) b run r states) chip v e g c k q
+    pub unknown_bytes_order : record { answer = a; records = r; states = states } ≡ bytes_order_of chip capacity b run r states
+    unfolding bytes_order_of
+    unknown_bytes_order =
+        chip_unknown (refused_result r states) (λ c. bytes_order_for (chips.target_of c capacity) b run r states) chip v e _ f u
+        (ap (λ (x : Answer). record { answer = x; records = r; states = states }) q)
 
-  pub unknown_bytes_order : (a : Answer) → v ≡ Unknown → a ≡ refused_answer 18 0 → record { answer = a; records = r; states = states } ≡ bytes_order_of chip capacity b run r states
-  unfolding bytes_order_of
-  unknown_bytes_order a u q =
-      chip_unknown (refused_result r states) (λ c. bytes_order_for (chips.target_of c capacity) b run r states) chip v e _ u
-      (ap (λ (x : Answer). record { answer = x; records = r; states = states }) q)
+  module _ (c : Chip) (k : v ≡ prelude.Ok c) (g : Result (List ℕ)) where
+    pub known_order : g ≡ order_for (chips.target_of c capacity) b run r states → g ≡ order_of chip capacity b run r states
+    unfolding order_of
+    known_order q = chip_known (refused_result r states) (λ c. order_for (chips.target_of c capacity) b run r states) chip v e g c k q
 
-  pub known_bytes_order : (g : Result (List ℕ)) (c : Chip) → v ≡ Known c → g ≡ bytes_order_for (chips.target_of c capacity) b run r states → g ≡ bytes_order_of chip capacity b run r states
-  unfolding bytes_order_of
-  known_bytes_order g c k q = chip_known (refused_result r states) (λ c. bytes_order_for (chips.target_of c capacity) b run r states) chip v e g c k q
+    pub known_bytes_order : g ≡ bytes_order_for (chips.target_of c capacity) b run r states → g ≡ bytes_order_of chip capacity b run r states
+    unfolding bytes_order_of
+    known_bytes_order q = chip_known (refused_result r states) (λ c. bytes_order_for (chips.target_of c capacity) b run r states) chip v e g c k q

@@ -7,9 +7,12 @@ use Rattle.reading.specs.Reading.{reading_of}
 use Rattle.reading.specs.Decision.{decided, whole_dwords}
 use Rattle.records.specs.Records.{recorded}
 use Rattle.objects.specs.Objects.{Object, objects_of}
-use Rattle.runs.specs.declared.Verdict.{Verdict}
-use Rattle.runs.specs.Run.{ran}
+use Rattle.std.specs.Prelude as prelude
+use Rattle.chips.specs.Refusals.{number_of_refusal}
+use Rattle.runs.specs.Run.{Verdict, no_fault, numbered, ran}
 use Rattle.scoreboard.specs.declared.Answer.{Answer}
+use Rattle.scoreboard.specs.declared.Failure.{Failure}
+use Rattle.scoreboard.specs.declared.Failure.TheVariants.{Refused, FewStates, Stopped}
 
 -- the objects of a batch, for a chip and a capacity in rows
 abbrev pub objects_in : Target → List ℕ → List Object
@@ -22,6 +25,16 @@ refused_answer number place = record { number = number; place = place; object = 
 -- "A run taken to its end answers 0 and its event count"; "the first bad event stops the run with its position"
 abbrev pub ran_answer : Verdict → ℕ → Answer
 ran_answer v position = record { number = v.number; place = position; object = v.object; delta = v.delta }
+
+-- what the code finds, as an answer
+abbrev pub failure_answer : Failure → Answer
+failure_answer (Refused r) = refused_answer (number_of_refusal r.refusal) r.place
+failure_answer FewStates = refused_answer 20 0
+failure_answer (Stopped s) = ran_answer (numbered s.fault) s.position
+
+abbrev pub answer_of : prelude.Result ℕ Failure → Answer
+answer_of (prelude.Ok events) = ran_answer no_fault events
+answer_of (prelude.Err f) = failure_answer f
 
 -- What the check gives back: its answer, and the record buffer and the state bytes at exit.
 pub record Result (B : Type 0) : Type 0 where
@@ -50,9 +63,9 @@ module _ {B : Type 0} (put : B → ℕ → ℕ → B) (target : Target) (room : 
   unfoldable pub order_in : Result B
   order_in = decided (refused_result r states) (λ commands dwords. accepted_result) target room b
 
--- a record buffer that is dwords or bytes
-abbrev pub buffer_order_of : Target → List ℕ → List ℕ → Buffer → List ℕ → Result Buffer
-buffer_order_of target b run r states = order_in put_in target (length r.view) b run r states
+-- a lent record buffer of dwords or of bytes, by how its slice is stored to
+abbrev pub buffer_order_of : {E : Type 0} → (List E → ℕ → ℕ → List E) → Target → List ℕ → List ℕ → Buffer E → List ℕ → Result (Buffer E)
+buffer_order_of stored target b run r states = order_in (put_in stored) target (length r.view) b run r states
 
 -- the dword entry
 unfoldable pub order_for : Target → List ℕ → List ℕ → List ℕ → List ℕ → Result (List ℕ)

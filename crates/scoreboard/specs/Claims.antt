@@ -4,8 +4,8 @@ use Rattle.std.specs.Prelude.{◌≡◌, true, ◌⊎◌, List, ℕ, ◌/◌, �
 use Rattle.chips.specs.declared.Target.{Target}
 use Rattle.chips.specs.Chips.{target_of, ByChip}
 use Rattle.words.specs.Dwords.{dwords_of, put_le}
-use Rattle.reading.specs.declared.Scanned.{Scanned}
-use Rattle.reading.specs.declared.Scanned.TheVariants as variants
+use Rattle.reading.specs.Decision as variants
+use Rattle.reading.specs.Decision.{Scanned}
 use Rattle.reading.specs.Decision.{decision_of, whole_dwords}
 use Rattle.records.specs.Records.{recorded}
 use Rattle.objects.specs.Objects.{Object}
@@ -59,7 +59,7 @@ module _ (target : Target) (batch run records states filled : List ℕ) (decisio
   -- what a decision on the batch leads to: its refusal, number and place; else 20, or the run
   abbrev pub LeadsTo : Scanned → Type 0
   LeadsTo (variants.Stopped m p) = (answer ≡ refused_answer m p) × TurnedAway m
-  LeadsTo (variants.Ended commands dwords objects) = (answer.number ≡ 20) ⊎ Began
+  LeadsTo (variants.Ended _ _ _) = (answer.number ≡ 20) ⊎ Began
 
   pub record Claims : Type 0 where
     -- 25 is the last number

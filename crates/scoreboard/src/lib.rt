@@ -1,10 +1,14 @@
 // The order check: is the order in which blocks ran one that the scoreboard permits?
 #![tactic(auto)]
 
-ghost use Rattle.std.specs.Prelude.{◌≡◌};
-ghost use Rattle.scoreboard.specs.Answers.{order_for, bytes_order_for, order_of, bytes_order_of};
+ghost use Rattle.std.specs.Prelude.{◌≡◌, ◌/◌, length};
+ghost use Rattle.scoreboard.specs.declared.Failure.TheVariants.{Refused, Stopped};
+ghost use Rattle.scoreboard.specs.Answers.{refused_answer, failure_answer, answer_of, bytes_order_for, order_of, bytes_order_of};
 
-use chips::{Named, Target, chip_named};
+use chips::{Chip, Refusal, Target};
+use order::{answered, check_for, unnamed};
+use reading::Refused;
+use runs::Stopped;
 
 mod order;
 
@@ -20,25 +24,44 @@ pub struct Answer {
     pub delta: u64,
 }
 
-// The order check over dwords, for a known chip.
-fn check_for(
-    target: Target,
-    batch: &[u32],
-    run: &[u32],
-    records: &mut [u32],
-    states: &mut [u8],
-) -> Answer
-    ensures { record { answer = result; records = records.new; states = states.new }
-        ≡ order_for target batch.now run.now records.old states.old }
-{
-    let none: [u8; 0] = [];
-    let mut empty: [u8; 0] = [];
-    order::order(
-        target, batch, &none, run, &none, records, &mut empty, states,
-    )
+// Why a run is not taken to its end: the batch, or bytes that are no whole dwords, are refused; there are too few state bytes; or a bad
+// event stops it.
+#[derive(Clone, Copy, Debug, PartialEq, Eq)]
+enum Failure {
+    Refused(Refused),
+    FewStates,
+    Stopped(Stopped),
 }
 
-// The same over little-endian bytes: the batch's 17, then the run's, before all else but 18, which `check_bytes` asks.
+impl From<Refused> for Failure {
+    ghost from_gives = { λ r f. f ≡ Refused r };
+
+    fn from(r: Refused) -> Failure {
+        Failure::Refused(r)
+    }
+}
+
+impl From<Stopped> for Failure {
+    ghost from_gives = { λ s f. f ≡ Stopped s };
+
+    fn from(s: Stopped) -> Failure {
+        Failure::Stopped(s)
+    }
+}
+
+// 17, for bytes that are no whole dwords.
+fn partial_dword(bytes: &[u8]) -> Failure
+    ensures { failure_answer result ≡ refused_answer 17 (length bytes.now / 4) }
+{
+    let refused = Refused {
+        refusal: Refusal::PartialDword,
+        place: bytes.len() / 4,
+    };
+    refused.into()
+}
+
+// The order check over little-endian bytes, for a known chip: the batch's 17, then the run's, before all else but 18, which `check_bytes`
+// asks.
 #[tactic(auto, using(crate::proofs::Orders::odd_batch, crate::proofs::Orders::odd_run))]
 fn check_bytes_for(
     target: Target,
@@ -46,25 +69,21 @@ fn check_bytes_for(
     run: &[u8],
     records: &mut [u8],
     states: &mut [u8],
-) -> Answer
-    ensures { record { answer = result; records = records.new; states = states.new }
+) -> Result<usize, Failure>
+    ensures { record { answer = answer_of result; records = records.new; states = states.new }
         ≡ bytes_order_for target batch.now run.now records.old states.old }
 {
     if batch.len() % 4 != 0 {
-        return order::refused(17, batch.len() / 4);
+        return Err(partial_dword(batch));
     }
     if run.len() % 4 != 0 {
-        return order::refused(17, run.len() / 4);
+        return Err(partial_dword(run));
     }
-    let none: [u32; 0] = [];
-    let mut empty: [u32; 0] = [];
-    order::order(
-        target, &none, batch, &none, run, &mut empty, records, states,
-    )
+    check_for(target, batch, run, records, states)
 }
 
 // The order check over dwords: the chip, a batch, the capacity in rows, a run, and what is lent for records and states.
-#[tactic(auto, using(crate::proofs::Orders::unknown_order, crate::proofs::Orders::known_order))]
+#[tactic(auto, using(crate::proofs::Orders::unknown_order))]
 pub fn check(
     chip: u32,
     batch: &[u32],
@@ -76,9 +95,9 @@ pub fn check(
     ensures { record { answer = result; records = records.new; states = states.new }
         ≡ order_of chip capacity batch.now run.now records.old states.old }
 {
-    match chip_named(chip) {
-        Named::Unknown => order::refused(18, 0),
-        Named::Known { chip } => check_for(Target { chip, capacity }, batch, run, records, states),
+    match Chip::try_from(chip) {
+        Ok(chip) => answered(check_for(Target { chip, capacity }, batch, run, records, states)),
+        Err(_) => unnamed(Refusal::UnknownChip.number(), 0),
     }
 }
 
@@ -95,14 +114,14 @@ pub fn check_bytes(
     ensures { record { answer = result; records = records.new; states = states.new }
         ≡ bytes_order_of chip capacity batch.now run.now records.old states.old }
 {
-    match chip_named(chip) {
-        Named::Unknown => order::refused(18, 0),
-        Named::Known { chip } => check_bytes_for(
+    match Chip::try_from(chip) {
+        Ok(chip) => answered(check_bytes_for(
             Target { chip, capacity },
             batch,
             run,
             records,
             states,
-        ),
+        )),
+        Err(_) => unnamed(Refusal::UnknownChip.number(), 0),
     }
 }

@@ -1,17 +1,20 @@
-// The order check over dwords or bytes: one core, of which each entry leaves one source and one buffer empty.
+// The order check over any lent slices, for a known chip, and the answer that is made of what it finds.
 ghost use Rattle.std.specs.Prelude.{◌≡◌};
-ghost use Rattle.words.specs.Dwords.{lent, lent_buffer};
-ghost use Rattle.scoreboard.specs.Answers.{refused_answer, ran_answer, buffer_order_of};
+ghost use Rattle.words.specs.Dwords.{lent_buffer};
+ghost use Rattle.runs.specs.Run.{numbered};
+ghost use Rattle.scoreboard.specs.Answers.{refused_answer, ran_answer, answer_of, buffer_order_of};
 
-use crate::Answer;
+use crate::{Answer, Failure};
 use chips::Target;
-use reading::{Scanned, decide};
+use objects::walk::Objects;
+use reading::decide;
 use records::fill;
-use runs::RunEnd;
+use runs::Fault;
 use runs::events::{begin, run};
-use words::held;
+use words::Element;
 
-pub fn refused(number: u32, place: usize) -> Answer
+// An answer that names no object.
+pub fn unnamed(number: u32, place: usize) -> Answer
     ensures { result ≡ refused_answer number place }
 {
     Answer {
@@ -22,46 +25,60 @@ pub fn refused(number: u32, place: usize) -> Answer
     }
 }
 
-// The answer of a run, taken to its end or stopped.
-fn answered(end: RunEnd) -> Answer
-    ensures { result ≡ ran_answer end.verdict end.position }
+// The answer of a bad event at a position.
+fn stopped(fault: Fault, position: usize) -> Answer
+    ensures { result ≡ ran_answer (numbered fault) position }
 {
+    let place = position as u64;
+    let (number, object, delta) = match fault {
+        Fault::NoObject => (21, 0, 0),
+        Fault::NotWaiting => (22, 0, 0),
+        Fault::NotRunning => (23, 0, 0),
+        Fault::Stalls { object } => (24, object, 0),
+        Fault::Waits { object, delta } => (25, object, delta),
+    };
     Answer {
-        number: end.verdict.number as u64,
-        place: end.position as u64,
-        object: end.verdict.object as u64,
-        delta: end.verdict.delta as u64,
+        number,
+        place,
+        object: object as u64,
+        delta: delta as u64,
+    }
+}
+
+// The answer of a check: a run's event count, or why it was not taken to its end.
+pub fn answered(end: Result<usize, Failure>) -> Answer
+    ensures { result ≡ answer_of end }
+{
+    match end {
+        Ok(events) => unnamed(0, events),
+        Err(Failure::Refused(r)) => unnamed(r.refusal.number(), r.place),
+        Err(Failure::FewStates) => unnamed(20, 0),
+        Err(Failure::Stopped(s)) => stopped(s.fault, s.position),
     }
 }
 
 // The records are written only when 20 is known.
-pub fn order(
+pub fn check_for<T: Element>(
     target: Target,
-    dw: &[u32],
-    by: &[u8],
-    ed: &[u32],
-    eb: &[u8],
-    rd: &mut [u32],
-    rb: &mut [u8],
+    batch: &[T],
+    events: &[T],
+    records: &mut [T],
     states: &mut [u8],
-) -> Answer
-    ensures { record { answer = result; records = lent_buffer rd.new rb.new; states = states.new }
-        ≡ buffer_order_of target (lent dw.now by.now) (lent ed.now eb.now)
-        (lent_buffer rd.old rb.old) states.old }
+) -> Result<usize, Failure>
+    ensures { record { answer = answer_of result; records = lent_buffer T.dwords records.new; states = states.new }
+        ≡ buffer_order_of T.stored target (T.dwords batch.now) (T.dwords events.now)
+        (lent_buffer T.dwords records.old) states.old }
 {
-    match decide(target, dw, by, held(rd, rb)) {
-        Scanned::Stopped { number, place } => refused(number, place),
-        Scanned::Ended {
-            commands,
-            dwords,
-            objects,
-        } => {
-            if states.len() < objects {
-                return refused(20, 0);
-            }
-            fill(target, dw, by, rd, rb);
-            begin(states, objects);
-            answered(run(rd, rb, commands, objects, ed, eb, states))
-        }
+    let extent = decide(target, batch, T::held(records))?;
+    if states.len() < extent.objects {
+        return Err(Failure::FewStates);
     }
+    fill(target, batch, records);
+    begin(states, extent.objects);
+    let objects = Objects {
+        records,
+        commands: extent.commands,
+        count: extent.objects,
+    };
+    Ok(run(&objects, events, states)?)
 }

@@ -7,15 +7,8 @@ use mathlib.Core.List.{List, [], ◌∷◌}
 use lib.ListN.{length, get_or, set, length-set}
 use lib.Seq.{get_or-set_other}
 use mathlib.Core.Logic.{◌≢◌}
-use Rattle.words.specs.Dwords.{le_at, dwords_of, dwords_in, put_le, buffer, set_unless, put_in}
-
-pub length_dwords : (l : List ℕ) → length (dwords_of l) ≡ length l / 4
-unfolding dwords_of
-length_dwords (a ∷ b ∷ c ∷ d ∷ l) = let e = length_dwords l in omega arith
-length_dwords (a ∷ b ∷ c ∷ []) = refl
-length_dwords (a ∷ b ∷ []) = refl
-length_dwords (a ∷ []) = refl
-length_dwords [] = refl
+use Rattle.words.specs.Lengths.{length_dwords}
+use Rattle.words.specs.Dwords.{le_at, dwords_of, put_le, lent_buffer, put_in}
 
 shift4 : (a b c d : ℕ) (l : List ℕ) (k m : ℕ) → m ≡ 4 + k → get_or (a ∷ b ∷ c ∷ d ∷ l) m 0 ≡ get_or l k 0
 shift4 a b c d l k m e = let z : m ≡ suc (suc (suc (suc k))) = omega arith in rw z
@@ -40,56 +33,21 @@ get_or_dwords (a ∷ b ∷ []) j h = let z : j < 0 = h in omega arith
 get_or_dwords (a ∷ []) j h = let z : j < 0 = h in omega arith
 get_or_dwords [] j h = let z : j < 0 = h in omega arith
 
--- a source, by whether it has bytes
-pub in_dwords : (dw by : List ℕ) → length by ≡ 0 → dwords_in dw by ≡ dw
-unfolding dwords_in
-in_dwords dw [] e = refl
-in_dwords dw (b ∷ by) e = absurd (omega arith)
+-- what `held` and `word` show of bytes
+pub held_bytes : (by : List ℕ) → length by / 4 ≡ length (dwords_of by)
+held_bytes by = sym (length_dwords by)
 
-in_bytes : (dw by : List ℕ) → (length by ≡ 0 → ⊥) → dwords_in dw by ≡ dwords_of by
-unfolding dwords_in
-in_bytes dw [] n = absurd (n refl)
-in_bytes dw (b ∷ by) n = refl
+pub word_bytes : (by : List ℕ) (i r : ℕ) → i < length (dwords_of by) → r ≡ le_at by (4 * i) → r ≡ get_or (dwords_of by) i 0
+word_bytes by i r h e = let m = held_bytes by in e ∙ sym (get_or_dwords by i (omega arith))
 
-pub in_none : (by : List ℕ) → dwords_in [] by ≡ dwords_of by
-unfolding dwords_in dwords_of
-in_none [] = refl
-in_none (b ∷ by) = refl
-
--- how many dwords a source holds goes by the lengths alone
-pub in_length : (dw by dw' by' : List ℕ) → length dw ≡ length dw' → length by ≡ length by' → length (dwords_in dw by) ≡ length (dwords_in dw' by')
-unfolding dwords_in
-in_length dw [] dw' [] p q = p
-in_length dw [] dw' (b ∷ by') p q = absurd (omega arith)
-in_length dw (b ∷ by) dw' [] p q = absurd (omega arith)
-in_length dw (b ∷ by) dw' (b' ∷ by') p q = let e = length_dwords (b ∷ by) in let e' = length_dwords (b' ∷ by') in omega arith
-
--- what `held` and `word` show
-pub held_dwords : (dw by : List ℕ) → length by ≡ 0 → length dw ≡ length (dwords_in dw by)
-held_dwords dw by e = ap length (sym (in_dwords dw by e))
-
-pub held_bytes : (dw by : List ℕ) → (length by ≡ 0 → ⊥) → length by / 4 ≡ length (dwords_in dw by)
-held_bytes dw by n = sym (length_dwords by) ∙ ap length (sym (in_bytes dw by n))
-
-pub word_dwords : (dw by : List ℕ) (i : ℕ) → length by ≡ 0 → get_or dw i 0 ≡ get_or (dwords_in dw by) i 0
-word_dwords dw by i e = ap (λ (l : List ℕ). get_or l i 0) (sym (in_dwords dw by e))
-
-pub word_bytes : (dw by : List ℕ) (i r : ℕ) → (length by ≡ 0 → ⊥) → i < length (dwords_in dw by) → r ≡ le_at by (4 * i) → r ≡ get_or (dwords_in dw by) i 0
-word_bytes dw by i r n h e =
-    let m = held_bytes dw by n in
-    e ∙ sym (get_or_dwords by i (omega arith)) ∙ ap (λ (l : List ℕ). get_or l i 0) (sym (in_bytes dw by n))
-
--- an index below the number of dwords is one of the dwords lent, or four bytes of the bytes lent
-pub index_dwords : (dw by : List ℕ) (i : ℕ) → length by ≡ 0 → i < length (dwords_in dw by) → i < length dw
-index_dwords dw by i e h = let m = held_dwords dw by e in omega arith
-
-pub index_bytes : (dw by : List ℕ) (i : ℕ) → (length by ≡ 0 → ⊥) → i < length (dwords_in dw by) → 4 * i + 3 < length by
-index_bytes dw by i n h = let m = held_bytes dw by n in omega arith
+-- an index below the number of dwords is four bytes of the bytes lent
+pub index_bytes : (by : List ℕ) (i : ℕ) → i < length (dwords_of by) → 4 * i + 3 < length by
+index_bytes by i h = let m = held_bytes by in omega arith
 
 pub length-put : (l : List ℕ) (k v : ℕ) → length (put_le l k v) ≡ length l
 length-put l k v = simp length-set
 
-pub ruleset source = (held_dwords, held_bytes, word_dwords, word_bytes, index_dwords, index_bytes)
+pub ruleset source = (held_bytes, word_bytes, index_bytes)
 
 -- a stored dword, among the dwords of the bytes
 set4 : (a b c d : ℕ) (l : List ℕ) (k m v : ℕ) → m ≡ 4 + k → set (a ∷ b ∷ c ∷ d ∷ l) m v ≡ a ∷ b ∷ c ∷ d ∷ set l k v
@@ -128,26 +86,11 @@ dwords_put (a ∷ b ∷ []) k v p h = absurd (omega arith)
 dwords_put (a ∷ []) k v p h = absurd (omega arith)
 dwords_put [] k v p h = absurd (omega arith)
 
--- the dwords of a buffer after a store
-in_put : (dw by by' : List ℕ) (k v : ℕ) → (length by ≡ 0 → ⊥) → k < length (dwords_in dw by) → v < 2 ^ 32 → by' ≡ put_le by k v → dwords_in dw by' ≡ set (dwords_in dw by) k v
-in_put dw by by' k v n h p e =
-    let m : 4 * k + 3 < length by = index_bytes dw by k n h in
-    let l : length by' ≡ length by = ap length e ∙ length-put by k v in
-    in_bytes dw by' (λ z. n (omega arith)) ∙ ap dwords_of e ∙ dwords_put by k v (omega arith) p ∙ ap (λ (x : List ℕ). set x k v) (sym (in_bytes dw by n))
-
--- what `store_in` shows
-pub stored_dwords : (dw by : List ℕ) (k v : ℕ) → length by ≡ 0 → buffer (set dw k v) by ≡ put_in (buffer dw by) k v
-unfolding set_unless dwords_in
-stored_dwords dw [] k v e = refl
-stored_dwords dw (b ∷ by) k v e = absurd (omega arith)
-
-dwords_stay : (by dw : List ℕ) (k v : ℕ) → (length by ≡ 0 → ⊥) → dw ≡ set_unless by dw k v
-unfolding set_unless
-dwords_stay [] dw k v n = absurd (n refl)
-dwords_stay (b ∷ by) dw k v n = refl
-
-pub stored_bytes : (dw by by' : List ℕ) (k v : ℕ) → (length by ≡ 0 → ⊥) → k < length (dwords_in dw by) → v < 2 ^ 32 → by' ≡ put_le by k v → buffer dw by' ≡ put_in (buffer dw by) k v
-stored_bytes dw by by' k v n h p e = λ j. record { dwords = dwords_stay by dw k v n j; bytes = e j; view = in_put dw by by' k v n h p e j }
+-- what `put` shows of bytes
+pub stored_bytes : (by by' : List ℕ) (k v : ℕ) → k < length (dwords_of by) → v < 2 ^ 32 → by' ≡ put_le by k v → lent_buffer dwords_of by' ≡ put_in put_le (lent_buffer dwords_of by) k v
+stored_bytes by by' k v h p e =
+    let m = index_bytes by k h in
+    λ j. record { items = e j; view = (ap dwords_of e ∙ dwords_put by k v (omega arith) p) j }
 
 -- a stored dword, byte by byte and dword by dword
 pub put_other : (l : List ℕ) (k v p : ℕ) → p / 4 ≢ k → get_or (put_le l k v) p 0 ≡ get_or l p 0
@@ -179,4 +122,4 @@ put_same (a ∷ b ∷ []) k v h = let z : k < 0 = h in absurd (omega arith)
 put_same (a ∷ []) k v h = let z : k < 0 = h in absurd (omega arith)
 put_same [] k v h = let z : k < 0 = h in absurd (omega arith)
 
-pub ruleset stores = (index_dwords, index_bytes, stored_dwords, stored_bytes)
+pub ruleset stores = (index_bytes, stored_bytes)

@@ -1,4 +1,4 @@
--- Little-endian dwords in bytes, and a source that is dwords or bytes. Assumes nothing.
+-- Little-endian dwords in bytes, and a slice of dwords or of bytes that a caller lends. Assumes nothing.
 use Rattle.std.specs.Prelude.{ℕ, ◌+◌, ◌*◌, ◌/◌, ◌%◌, ◌^◌, List, [], ◌∷◌, get_or, set}
 
 -- the dword in the four bytes from an index on, the low byte first
@@ -13,11 +13,6 @@ dwords_of (a ∷ b ∷ []) = []
 dwords_of (a ∷ []) = []
 dwords_of [] = []
 
--- the dwords of a source: a caller lends dwords, or bytes, and leaves the other empty
-unfoldable pub dwords_in : List ℕ → List ℕ → List ℕ
-dwords_in dw [] = dw
-dwords_in dw (b ∷ by) = dwords_of (b ∷ by)
-
 -- bytes with dword k, which is v, stored: four bytes, the low byte first
 abbrev pub put_le : List ℕ → ℕ → ℕ → List ℕ
 put_le l k v =
@@ -26,27 +21,15 @@ put_le l k v =
     (4 * k + 2) (v / 2 ^ 16 % 2 ^ 8))
     (4 * k + 3) (v / 2 ^ 24 % 2 ^ 8)
 
--- A buffer that is lent as dwords, or as bytes, of which a caller leaves the other empty: what each slice holds, and its dwords.
-pub record Buffer : Type 0 where
-  pub dwords : List ℕ
-  pub bytes : List ℕ
+-- A buffer that is lent, of dwords or of bytes: what its slice holds, and the dwords that stand there.
+pub record Buffer (E : Type 0) : Type 0 where
+  pub items : List E
   pub view : List ℕ
 
-abbrev pub buffer : List ℕ → List ℕ → Buffer
-buffer dw by = record { dwords = dw; bytes = by; view = dwords_in dw by }
+-- a lent buffer, by what its slice holds and by how that is read as dwords
+abbrev pub lent_buffer : {E : Type 0} → (List E → List ℕ) → List E → Buffer E
+lent_buffer dwords l = record { items = l; view = dwords l }
 
--- the slice of dwords with dword k, which is v, stored, where that of bytes is empty
-unfoldable pub set_unless : List ℕ → List ℕ → ℕ → ℕ → List ℕ
-set_unless [] dw k v = set dw k v
-set_unless (b ∷ by) dw k v = dw
-
--- a buffer with dword k, which is v, stored
-abbrev pub put_in : Buffer → ℕ → ℕ → Buffer
-put_in r k v = record { dwords = set_unless r.bytes r.dwords k v; bytes = put_le r.bytes k v; view = set r.view k v }
-
--- In contracts: the dwords of a source that is lent, and a lent buffer, by what their slices hold.
-abbrev pub lent : List ℕ → List ℕ → List ℕ
-lent dw by = dwords_in dw by
-
-abbrev pub lent_buffer : List ℕ → List ℕ → Buffer
-lent_buffer dw by = buffer dw by
+-- a buffer with dword k, which is v, stored, by how a slice is stored to
+abbrev pub put_in : {E : Type 0} → (List E → ℕ → ℕ → List E) → Buffer E → ℕ → ℕ → Buffer E
+put_in stored b k v = record { items = stored b.items k v; view = set b.view k v }

@@ -1,8 +1,16 @@
-use Rattle.batch.proofs.Entries.{unknown_answer, unknown_records, known_answer, known_records}
+use Rattle.std.proofs.Common.{ap, ◌∙◌}
+use Rattle.batch.specs.Answers.{refused_answer}
+use Rattle.batch.proofs.Entries.{unknown_answer, unknown_records, dwords_answer, dwords_records}
 use Rattle.batch.proofs.check.Goals as goal
 
-pub returns-in-Unknown : goal.returns-in-Unknown
-returns-in-Unknown c = (search unknown_answer, search unknown_records)
+pub returns-in-Err : goal.returns-in-Err
+returns-in-Err c =
+    let e = c.in-Err.is in (
+      unknown_answer _ _ _ _ _ c.try_from.ensures _ _ e (c.refused.ensures ∙ ap (λ n. refused_answer n 0) c.number.ensures),
+      unknown_records _ _ _ _ _ c.try_from.ensures _ e,
+    )
 
-pub returns-in-Known : goal.returns-in-Known
-returns-in-Known c = (search known_answer, search known_records)
+pub returns-in-Ok : goal.returns-in-Ok
+returns-in-Ok c =
+    let w = c.check_for.ensures in
+    (dwords_answer _ _ _ _ _ c.try_from.ensures _ _ c.in-Ok.is w.0, dwords_records _ _ _ _ _ c.try_from.ensures _ _ c.in-Ok.is w.1)

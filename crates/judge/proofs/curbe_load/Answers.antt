@@ -1,25 +1,42 @@
-use Rattle.judge.proofs.Verdicts.{curbe_can}
-use Rattle.laws.proofs.BitRanges.{coded}
-use borrow.Author.Tests.{eq-eqb, le-ltb, lt-ltb, ne_eqb}
+use Rattle.std.proofs.Common.{rules}
+use Rattle.judge.proofs.Verdicts.{curbe_is, at_row, past_row}
 use Rattle.judge.proofs.curbe_load.Goals as goal
 
-pub returns-then-marked : goal.returns-then-marked
-returns-then-marked c = rw curbe_can (simp (coded, ← c.marked.ensures, c.if-marked.true))
+pub returns-in_err-must_be_zero : goal.returns-in_err-must_be_zero
+returns-in_err-must_be_zero c =
+    curbe_is _ _ _
+    (at_row _ _ _ _ _ c.must_be_zero.ensures _ c.in_err-must_be_zero.was (search rules))
 
-pub returns-then-marked-2 : goal.returns-then-marked-2
-returns-then-marked-2 c = rw curbe_can (simp (coded, ← c.marked.ensures, c.if-marked.false, ← c.marked-2.ensures, c.if-marked-2.true))
+pub returns-in_err-row : goal.returns-in_err-row
+returns-in_err-row c =
+    curbe_is _ _ _
+    (past_row _ _ _ _ _ c.must_be_zero.ensures _ c.in_ok-must_be_zero.was
+    (past_row _ _ _ _ _ c.must_be_zero-2.ensures _ c.in_ok-must_be_zero-2.was
+    (at_row _ _ _ _ _ c.row.ensures _ c.in_err-row.was (search rules))))
 
-pub returns-then-length-ne0 : goal.returns-then-length-ne0
-returns-then-length-ne0 c = rw curbe_can (simp (coded, ← c.marked.ensures, c.if-marked.false, ← c.marked-2.ensures, c.if-marked-2.false, ne_eqb _ _ c.if-length-ne0.true))
+pub returns-in_err-row-2 : goal.returns-in_err-row-2
+returns-in_err-row-2 c =
+    curbe_is _ _ _
+    (past_row _ _ _ _ _ c.must_be_zero.ensures _ c.in_ok-must_be_zero.was
+    (past_row _ _ _ _ _ c.must_be_zero-2.ensures _ c.in_ok-must_be_zero-2.was
+    (past_row _ _ _ _ _ c.row.ensures _ c.in_ok-row.was
+    (at_row _ _ _ _ _ c.row-2.ensures _ c.in_err-row-2.was (search rules)))))
 
-pub returns-then-h-ne0 : goal.returns-then-h-ne0
-returns-then-h-ne0 c = rw curbe_can (simp (coded, ← c.marked.ensures, c.if-marked.false, ← c.marked-2.ensures, c.if-marked-2.false, eq-eqb _ _ c.if-length-ne0.false, ne_eqb _ _ c.if-h-ne0.true))
-
-pub returns-then-st-eq0 : goal.returns-then-st-eq0
-returns-then-st-eq0 c = rw curbe_can (simp (coded, ← c.marked.ensures, c.if-marked.false, ← c.marked-2.ensures, c.if-marked-2.false, eq-eqb _ _ c.if-length-ne0.false, eq-eqb _ _ c.if-h-ne0.false, eq-eqb _ _ c.if-st-eq0.true))
-
-pub returns-then-st-length : goal.returns-then-st-length
-returns-then-st-length c = rw curbe_can (simp (coded, ← c.marked.ensures, c.if-marked.false, ← c.marked-2.ensures, c.if-marked-2.false, eq-eqb _ _ c.if-length-ne0.false, eq-eqb _ _ c.if-h-ne0.false, ne_eqb _ _ c.if-st-eq0.false, lt-ltb _ _ c.if-st-length.true))
+pub returns-in_err-row-3 : goal.returns-in_err-row-3
+returns-in_err-row-3 c =
+    curbe_is _ _ _
+    (past_row _ _ _ _ _ c.must_be_zero.ensures _ c.in_ok-must_be_zero.was
+    (past_row _ _ _ _ _ c.must_be_zero-2.ensures _ c.in_ok-must_be_zero-2.was
+    (past_row _ _ _ _ _ c.row.ensures _ c.in_ok-row.was
+    (past_row _ _ _ _ _ c.row-2.ensures _ c.in_ok-row-2.was
+    (at_row _ _ _ _ _ c.row-3.ensures _ c.in_err-row-3.was (search rules))))))
 
 pub returns : goal.returns
-returns c = rw curbe_can (simp (coded, ← c.marked.ensures, c.if-marked.false, ← c.marked-2.ensures, c.if-marked-2.false, eq-eqb _ _ c.if-length-ne0.false, eq-eqb _ _ c.if-h-ne0.false, ne_eqb _ _ c.if-st-eq0.false, le-ltb _ _ c.if-st-length.false))
+returns c =
+    curbe_is _ _ _
+    (past_row _ _ _ _ _ c.must_be_zero.ensures _ c.in_ok-must_be_zero.was
+    (past_row _ _ _ _ _ c.must_be_zero-2.ensures _ c.in_ok-must_be_zero-2.was
+    (past_row _ _ _ _ _ c.row.ensures _ c.in_ok-row.was
+    (past_row _ _ _ _ _ c.row-2.ensures _ c.in_ok-row-2.was
+    (past_row _ _ _ _ _ c.row-3.ensures _ c.in_ok-row-3.was
+    (c.row-4.ensures))))))

@@ -1,31 +1,65 @@
-use Rattle.judge.proofs.Verdicts.{descriptor_can}
-use Rattle.laws.proofs.BitRanges.{coded}
-use borrow.Author.Tests.{eq-eqb, le-leb, le-ltb, lt-leb, lt-ltb, ne_eqb}
+use Rattle.std.proofs.Common.{rules}
+use Rattle.judge.proofs.Verdicts.{descriptor_is, at_row, past_row}
 use Rattle.judge.proofs.descriptor_load.Goals as goal
 
-pub returns-then-marked : goal.returns-then-marked
-returns-then-marked c = rw descriptor_can (simp (coded, ← c.marked.ensures, c.if-marked.true))
+pub returns-in_err-must_be_zero : goal.returns-in_err-must_be_zero
+returns-in_err-must_be_zero c =
+    descriptor_is _ _ _
+    (at_row _ _ _ _ _ c.must_be_zero.ensures _ c.in_err-must_be_zero.was (search rules))
 
-pub returns-then-marked-2 : goal.returns-then-marked-2
-returns-then-marked-2 c = rw descriptor_can (simp (coded, ← c.marked.ensures, c.if-marked.false, ← c.marked-2.ensures, c.if-marked-2.true))
+pub returns-in_err-row : goal.returns-in_err-row
+returns-in_err-row c =
+    descriptor_is _ _ _
+    (past_row _ _ _ _ _ c.must_be_zero.ensures _ c.in_ok-must_be_zero.was
+    (past_row _ _ _ _ _ c.must_be_zero-2.ensures _ c.in_ok-must_be_zero-2.was
+    (at_row _ _ _ _ _ c.row.ensures _ c.in_err-row.was (search rules))))
 
-pub returns-then-length-ne0 : goal.returns-then-length-ne0
-returns-then-length-ne0 c = rw descriptor_can (simp (coded, ← c.marked.ensures, c.if-marked.false, ← c.marked-2.ensures, c.if-marked-2.false, ne_eqb _ _ c.if-length-ne0.true))
+pub returns-in_err-row-2 : goal.returns-in_err-row-2
+returns-in_err-row-2 c =
+    descriptor_is _ _ _
+    (past_row _ _ _ _ _ c.must_be_zero.ensures _ c.in_ok-must_be_zero.was
+    (past_row _ _ _ _ _ c.must_be_zero-2.ensures _ c.in_ok-must_be_zero-2.was
+    (past_row _ _ _ _ _ c.row.ensures _ c.in_ok-row.was
+    (at_row _ _ _ _ _ c.row-2.ensures _ c.in_err-row-2.was (search rules)))))
 
-pub returns-then-length-lt32 : goal.returns-then-length-lt32
-returns-then-length-lt32 c = rw descriptor_can (simp (coded, ← c.marked.ensures, c.if-marked.false, ← c.marked-2.ensures, c.if-marked-2.false, eq-eqb _ _ c.if-length-ne0.false, lt-ltb _ _ c.if-length-lt32.true))
+pub returns-in_err-row-3 : goal.returns-in_err-row-3
+returns-in_err-row-3 c =
+    descriptor_is _ _ _
+    (past_row _ _ _ _ _ c.must_be_zero.ensures _ c.in_ok-must_be_zero.was
+    (past_row _ _ _ _ _ c.must_be_zero-2.ensures _ c.in_ok-must_be_zero-2.was
+    (past_row _ _ _ _ _ c.row.ensures _ c.in_ok-row.was
+    (past_row _ _ _ _ _ c.row-2.ensures _ c.in_ok-row-2.was
+    (at_row _ _ _ _ _ c.row-3.ensures _ c.in_err-row-3.was (search rules))))))
 
-pub returns-then-length-gt2048 : goal.returns-then-length-gt2048
-returns-then-length-gt2048 c = rw descriptor_can (simp (coded, ← c.marked.ensures, c.if-marked.false, ← c.marked-2.ensures, c.if-marked-2.false, eq-eqb _ _ c.if-length-ne0.false, le-ltb _ _ c.if-length-lt32.false, lt-ltb _ _ c.if-length-gt2048.true))
+pub returns-in_err-row-4 : goal.returns-in_err-row-4
+returns-in_err-row-4 c =
+    descriptor_is _ _ _
+    (past_row _ _ _ _ _ c.must_be_zero.ensures _ c.in_ok-must_be_zero.was
+    (past_row _ _ _ _ _ c.must_be_zero-2.ensures _ c.in_ok-must_be_zero-2.was
+    (past_row _ _ _ _ _ c.row.ensures _ c.in_ok-row.was
+    (past_row _ _ _ _ _ c.row-2.ensures _ c.in_ok-row-2.was
+    (past_row _ _ _ _ _ c.row-3.ensures _ c.in_ok-row-3.was
+    (at_row _ _ _ _ _ c.row-4.ensures _ c.in_err-row-4.was (search rules)))))))
 
-pub returns-then-h-ne0 : goal.returns-then-h-ne0
-returns-then-h-ne0 c = rw descriptor_can (simp (coded, ← c.marked.ensures, c.if-marked.false, ← c.marked-2.ensures, c.if-marked-2.false, eq-eqb _ _ c.if-length-ne0.false, le-ltb _ _ c.if-length-lt32.false, le-ltb _ _ c.if-length-gt2048.false, ne_eqb _ _ c.if-h-ne0.true))
-
-pub returns-then-st-eq0 : goal.returns-then-st-eq0
-returns-then-st-eq0 c = rw descriptor_can (simp (coded, ← c.marked.ensures, c.if-marked.false, ← c.marked-2.ensures, c.if-marked-2.false, eq-eqb _ _ c.if-length-ne0.false, le-ltb _ _ c.if-length-lt32.false, le-ltb _ _ c.if-length-gt2048.false, eq-eqb _ _ c.if-h-ne0.false, eq-eqb _ _ c.if-st-eq0.true))
-
-pub returns-then-st-ge3 : goal.returns-then-st-ge3
-returns-then-st-ge3 c = rw descriptor_can (simp (coded, ← c.marked.ensures, c.if-marked.false, ← c.marked-2.ensures, c.if-marked-2.false, eq-eqb _ _ c.if-length-ne0.false, le-ltb _ _ c.if-length-lt32.false, le-ltb _ _ c.if-length-gt2048.false, eq-eqb _ _ c.if-h-ne0.false, ne_eqb _ _ c.if-st-eq0.false, le-leb _ _ c.if-st-ge3.true))
+pub returns-in_err-row-5 : goal.returns-in_err-row-5
+returns-in_err-row-5 c =
+    descriptor_is _ _ _
+    (past_row _ _ _ _ _ c.must_be_zero.ensures _ c.in_ok-must_be_zero.was
+    (past_row _ _ _ _ _ c.must_be_zero-2.ensures _ c.in_ok-must_be_zero-2.was
+    (past_row _ _ _ _ _ c.row.ensures _ c.in_ok-row.was
+    (past_row _ _ _ _ _ c.row-2.ensures _ c.in_ok-row-2.was
+    (past_row _ _ _ _ _ c.row-3.ensures _ c.in_ok-row-3.was
+    (past_row _ _ _ _ _ c.row-4.ensures _ c.in_ok-row-4.was
+    (at_row _ _ _ _ _ c.row-5.ensures _ c.in_err-row-5.was (search rules))))))))
 
 pub returns : goal.returns
-returns c = rw descriptor_can (simp (coded, ← c.marked.ensures, c.if-marked.false, ← c.marked-2.ensures, c.if-marked-2.false, eq-eqb _ _ c.if-length-ne0.false, le-ltb _ _ c.if-length-lt32.false, le-ltb _ _ c.if-length-gt2048.false, eq-eqb _ _ c.if-h-ne0.false, ne_eqb _ _ c.if-st-eq0.false, lt-leb _ _ c.if-st-ge3.false))
+returns c =
+    descriptor_is _ _ _
+    (past_row _ _ _ _ _ c.must_be_zero.ensures _ c.in_ok-must_be_zero.was
+    (past_row _ _ _ _ _ c.must_be_zero-2.ensures _ c.in_ok-must_be_zero-2.was
+    (past_row _ _ _ _ _ c.row.ensures _ c.in_ok-row.was
+    (past_row _ _ _ _ _ c.row-2.ensures _ c.in_ok-row-2.was
+    (past_row _ _ _ _ _ c.row-3.ensures _ c.in_ok-row-3.was
+    (past_row _ _ _ _ _ c.row-4.ensures _ c.in_ok-row-4.was
+    (past_row _ _ _ _ _ c.row-5.ensures _ c.in_ok-row-5.was
+    (c.row-6.ensures))))))))

@@ -1,21 +1,16 @@
-use borrow.Author.Tests.{ne_eqb, lt-ltb, le-ltb}
-use Rattle.judge.specs.Refusals.{header_verdict}
-use Rattle.laws.proofs.Tests.{tests}
-use native.Mathlib.Omega.{arith}
+use Rattle.std.proofs.Common.{rules, refl}
+use Rattle.judge.proofs.Verdicts.{header_is, at_row, past_row}
 use Rattle.judge.proofs.header_verdict.Goals as goal
 
-pub returns-then-k-eq255 : goal.returns-then-k-eq255
-unfolding header_verdict
-returns-then-k-eq255 c = search (tests, arith)
+pub returns-in_err-row : goal.returns-in_err-row
+returns-in_err-row c = header_is _ _ _ _ _ _ refl refl (at_row _ _ _ _ _ c.row.ensures _ c.in_err-row.was (search rules))
 
-pub returns-then-not-length_allowed : goal.returns-then-not-length_allowed
-unfolding header_verdict
-returns-then-not-length_allowed c = simp (ne_eqb _ _ c.if-k-eq255.false, ← c.length_allowed.ensures, c.if-not-length_allowed.true)
-
-pub returns-then-left-total : goal.returns-then-left-total
-unfolding header_verdict
-returns-then-left-total c = simp (ne_eqb _ _ c.if-k-eq255.false, ← c.length_allowed.ensures, c.if-not-length_allowed.false, ← c.total.ensures, lt-ltb _ _ c.if-left-total.true)
+pub returns-in_err-row-2 : goal.returns-in_err-row-2
+returns-in_err-row-2 c =
+    header_is _ _ _ _ _ _ c.length_allowed.ensures refl
+    (past_row _ _ _ _ _ c.row.ensures _ c.in_ok-row.was (at_row _ _ _ _ _ c.row-2.ensures _ c.in_err-row-2.was (search rules)))
 
 pub returns : goal.returns
-unfolding header_verdict
-returns c = simp (ne_eqb _ _ c.if-k-eq255.false, ← c.length_allowed.ensures, c.if-not-length_allowed.false, ← c.total.ensures, le-ltb _ _ c.if-left-total.false)
+returns c =
+    header_is _ _ _ _ _ _ c.length_allowed.ensures c.total.ensures
+    (past_row _ _ _ _ _ c.row.ensures _ c.in_ok-row.was (past_row _ _ _ _ _ c.row-2.ensures _ c.in_ok-row-2.was c.row-3.ensures))

@@ -1,25 +1,29 @@
-use Rattle.judge.proofs.Verdicts.{vfe_can}
-use Rattle.laws.proofs.BitRanges.{coded}
-use borrow.Author.Tests.{le-ltb, lt-ltb}
+use Rattle.std.proofs.Common.{rules}
+use Rattle.judge.proofs.Verdicts.{vfe_is, at_row, past_row}
 use Rattle.judge.proofs.vfe.Goals as goal
 
-pub returns-then-marked : goal.returns-then-marked
-returns-then-marked c = rw vfe_can (simp (coded, ← c.marked.ensures, c.if-marked.true))
+pub returns-in_err-must_be_zero : goal.returns-in_err-must_be_zero
+returns-in_err-must_be_zero c =
+    vfe_is _ _ _
+    (at_row _ _ _ _ _ c.must_be_zero.ensures _ c.in_err-must_be_zero.was (search rules))
 
-pub returns-then-marked-2 : goal.returns-then-marked-2
-returns-then-marked-2 c = rw vfe_can (simp (coded, ← c.marked.ensures, c.if-marked.false, ← c.marked-2.ensures, c.if-marked-2.true))
+pub returns-in_err-must_be_zero-2 : goal.returns-in_err-must_be_zero-2
+returns-in_err-must_be_zero-2 c =
+    vfe_is _ _ _
+    (past_row _ _ _ _ _ c.must_be_zero.ensures _ c.in_ok-must_be_zero.was
+    (at_row _ _ _ _ _ c.must_be_zero-2.ensures _ c.in_err-must_be_zero-2.was (search rules)))
 
-pub returns-then-marked-3 : goal.returns-then-marked-3
-returns-then-marked-3 c = rw vfe_can (simp (coded, ← c.marked.ensures, c.if-marked.false, ← c.marked-2.ensures, c.if-marked-2.false, ← c.marked-3.ensures, c.if-marked-3.true))
+pub returns-in_err-must_be_zero-3 : goal.returns-in_err-must_be_zero-3
+returns-in_err-must_be_zero-3 c =
+    vfe_is _ _ _
+    (past_row _ _ _ _ _ c.must_be_zero.ensures _ c.in_ok-must_be_zero.was
+    (past_row _ _ _ _ _ c.must_be_zero-2.ensures _ c.in_ok-must_be_zero-2.was
+    (at_row _ _ _ _ _ c.must_be_zero-3.ensures _ c.in_err-must_be_zero-3.was (search rules))))
 
-pub returns-then-marked-4 : goal.returns-then-marked-4
-returns-then-marked-4 c = rw vfe_can (simp (coded, ← c.marked.ensures, c.if-marked.false, ← c.marked-2.ensures, c.if-marked-2.false, ← c.marked-3.ensures, c.if-marked-3.false, ← c.marked-4.ensures, c.if-marked-4.true))
-
-pub returns-then-without_flush : goal.returns-then-without_flush
-returns-then-without_flush c = rw vfe_can (simp (coded, ← c.marked.ensures, c.if-marked.false, ← c.marked-2.ensures, c.if-marked-2.false, ← c.marked-3.ensures, c.if-marked-3.false, ← c.marked-4.ensures, c.if-marked-4.false, ← c.without_flush.ensures, c.if-without_flush.true))
-
-pub returns-then-st-h : goal.returns-then-st-h
-returns-then-st-h c = rw vfe_can (simp (coded, ← c.marked.ensures, c.if-marked.false, ← c.marked-2.ensures, c.if-marked-2.false, ← c.marked-3.ensures, c.if-marked-3.false, ← c.marked-4.ensures, c.if-marked-4.false, ← c.without_flush.ensures, c.if-without_flush.false, lt-ltb _ _ c.if-st-h.true))
-
-pub returns : goal.returns
-returns c = rw vfe_can (simp (coded, ← c.marked.ensures, c.if-marked.false, ← c.marked-2.ensures, c.if-marked-2.false, ← c.marked-3.ensures, c.if-marked-3.false, ← c.marked-4.ensures, c.if-marked-4.false, ← c.without_flush.ensures, c.if-without_flush.false, le-ltb _ _ c.if-st-h.false))
+pub returns-in_err-must_be_zero-4 : goal.returns-in_err-must_be_zero-4
+returns-in_err-must_be_zero-4 c =
+    vfe_is _ _ _
+    (past_row _ _ _ _ _ c.must_be_zero.ensures _ c.in_ok-must_be_zero.was
+    (past_row _ _ _ _ _ c.must_be_zero-2.ensures _ c.in_ok-must_be_zero-2.was
+    (past_row _ _ _ _ _ c.must_be_zero-3.ensures _ c.in_ok-must_be_zero-3.was
+    (at_row _ _ _ _ _ c.must_be_zero-4.ensures _ c.in_err-must_be_zero-4.was (search rules)))))

@@ -8,5 +8,5 @@ overflow_add-at c = let a = c in let z = place_fits _ _ _ _ _ a.requires.0 a.req
 pub returns-then-k-eq2 : goal.returns-then-k-eq2
 returns-then-k-eq2 c = search passed_laws
 
-pub returns-else-k-eq2 : goal.returns-else-k-eq2
-returns-else-k-eq2 c = search passed_laws
+pub returns : goal.returns
+returns c = search passed_laws

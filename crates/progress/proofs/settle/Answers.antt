@@ -4,5 +4,5 @@ use Rattle.progress.proofs.settle.Goals as goal
 pub halt-requires : goal.halt-requires
 halt-requires c = search skip_small
 
-pub returns-in-Fault : goal.returns-in-Fault
-returns-in-Fault c = search settles
+pub returns-in-Err : goal.returns-in-Err
+returns-in-Err c = search settles

@@ -1,12 +1,8 @@
 use Rattle.progress.proofs.Leaves.{stores}
-use borrow.Author.Rules.{rules}
 use Rattle.progress.proofs.store.Goals as goal
 
-pub returns-then-records-i : goal.returns-then-records-i
-returns-then-records-i c = search stores
+pub returns-then-i-records : goal.returns-then-i-records
+returns-then-i-records c = search stores
 
-pub put-requires : goal.put-requires
-put-requires c = (search stores, search rules)
-
-pub returns : goal.returns
-returns c = search stores
+pub returns-else-i-records : goal.returns-else-i-records
+returns-else-i-records c = search stores

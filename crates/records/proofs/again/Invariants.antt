@@ -1,17 +1,18 @@
 use Prim.Native.Nat.{◌≤◌, ◌-◌}
 use mathlib.Core.Path.{◌≡◌}
 use lib.ListN.{length}
-use Rattle.words.specs.Dwords.{dwords_in, buffer}
+use Rattle.words.specs.Dwords.{lent_buffer}
 use Rattle.records.specs.Turns.{records_from, Left}
 use Rattle.records.proofs.again.Given as goal
 
 abbrev pub invariant-loop-h : goal.invariant-loop-h
-invariant-loop-h l = Left (dwords_in l.dw l.by) l.at l.s (length (dwords_in l.initial.rd l.initial.rb))
-    × (length l.rd ≡ length l.initial.rd)
-    × (length l.rb ≡ length l.initial.rb)
-    × (l.from ≤ l.at)
+invariant-loop-h g l =
+    let b = g.S.Element.dwords l.source in
+    let e = g.B.Element in
+    Left b l.at l.s (length (e.dwords l.initial.records))
+    × (l.initial.at ≤ l.at)
     × (l.s.chip ≡ l.initial.s.chip)
-    × (records_from (dwords_in l.dw l.by) l.at l.s (buffer l.rd l.rb) ≡ records_from (dwords_in l.dw l.by) l.from l.initial.s (buffer l.initial.rd l.initial.rb))
+    × (records_from e.stored b l.at l.s (lent_buffer e.dwords l.records) ≡ records_from e.stored b l.initial.at l.initial.s (lent_buffer e.dwords l.initial.records))
 
 abbrev pub decreases-loop-h : goal.decreases-loop-h
-decreases-loop-h l = length (dwords_in l.dw l.by) - l.at
+decreases-loop-h g l = length (g.S.Element.dwords l.source) - l.at

@@ -1,15 +1,16 @@
 use Prim.Native.Nat.{◌-◌}
 use mathlib.Core.Path.{◌≡◌}
 use lib.ListN.{length}
-use Rattle.words.specs.Dwords.{dwords_in, buffer}
+use Rattle.words.specs.Dwords.{lent_buffer}
 use Rattle.records.specs.Turns.{records_from, Left}
 use Rattle.records.proofs.fill.Given as goal
 
-abbrev pub invariant-loop-to : goal.invariant-loop-to
-invariant-loop-to l = Left (dwords_in l.dw l.by) l.at l.st (length (dwords_in l.initial.rd l.initial.rb))
-    × (length l.rd ≡ length l.initial.rd)
-    × (length l.rb ≡ length l.initial.rb)
-    × (records_from (dwords_in l.dw l.by) l.at l.st (buffer l.rd l.rb) ≡ records_from (dwords_in l.dw l.by) l.initial.at l.initial.st (buffer l.initial.rd l.initial.rb))
+abbrev pub invariant-loop-next : goal.invariant-loop-next
+invariant-loop-next g l =
+    let b = g.S.Element.dwords l.source in
+    let e = g.B.Element in
+    Left b l.at l.st (length (e.dwords l.initial.records))
+    × (records_from e.stored b l.at l.st (lent_buffer e.dwords l.records) ≡ records_from e.stored b l.initial.at l.initial.st (lent_buffer e.dwords l.initial.records))
 
-abbrev pub decreases-loop-to : goal.decreases-loop-to
-decreases-loop-to l = length (dwords_in l.dw l.by) - l.at
+abbrev pub decreases-loop-next : goal.decreases-loop-next
+decreases-loop-next g l = length (g.S.Element.dwords l.source) - l.at

@@ -1,13 +1,9 @@
-use mathlib.Core.Path.{refl}
 use borrow.Author.Rules.{rules}
-use Rattle.records.proofs.RecordWords.{words_laws, slot_there}
+use Rattle.records.proofs.RecordWords.{words_laws, words_none}
 use Rattle.records.proofs.put.Goals as goal
 
 pub loop-f-init : goal.loop-f-init
-loop-f-init c = (search rules, refl, refl, search words_laws)
-
-pub store_in-requires : goal.store_in-requires
-store_in-requires c = search slot_there
+loop-f-init g c = (search rules, words_none _ _ _ _)
 
 pub loop-f-preserved : goal.loop-f-preserved
-loop-f-preserved c = (search rules, search rules, search rules, search words_laws)
+loop-f-preserved g c = (search rules, search words_laws)

@@ -1,27 +1,12 @@
-use Rattle.std.proofs.Common.{sym, ◌∙◌, arith}
-use Rattle.text.proofs.Numbers.{begun, left, digit_more, digit_first}
+use Rattle.std.proofs.Common.{◌≡◌, ◌∙◌, ◌+◌, ◌-◌, ◌%◌, ◌≤◌, List, ℕ, sym, ap, subst, length, take, drop, set, arith, length-drop, length-set}
+use Rattle.std.proofs.Math.Seq.{take-length}
+use Rattle.text.proofs.Numbers.{digit_first}
 use Rattle.text.proofs.decimal.Goals as goal
 
-pub loop-rest-init : goal.loop-rest-init
-loop-rest-init c = record {
-  text = begun c.args.n c.args.digits.now (omega arith);
-  left = omega arith;
-  some = omega arith;
-  room = omega arith;
-}
-
-pub loop-rest-preserved : goal.loop-rest-preserved
-loop-rest-preserved c =
-    let l = c.loop-rest in
-    let f = left l.rest l.first (omega arith) l.invariant.left in
-    record {
-      text = l.invariant.text ∙ digit_more l.rest l.first l.digits (omega arith) (omega arith) (omega arith);
-      left = f.1;
-      some = omega arith;
-      room = omega arith;
-    }
-
-pub returns : goal.returns
-returns c =
-    let l = c.loop-rest in
-    (sym (l.invariant.text ∙ digit_first l.rest l.first l.digits (omega arith) (omega arith) (omega arith)), omega arith)
+pub returns-then-rest-eq0 : goal.returns-then-rest-eq0
+returns-then-rest-eq0 c =
+    let l = c.loop-i in
+    let first : List ℕ = drop (l.i - 1) (set l.digits (l.i - 1) (48 + l.rest % 10)) in
+    let n : length first ≡ 20 - (l.i - 1) = simp (length-drop, length-set) (omega arith) in
+    let e : take (20 - (l.i - 1)) first ≡ first = ap (λ (k : ℕ). take k first) (sym n) ∙ take-length first in
+    (e ∙ digit_first _ _ _ _ l.invariant (omega arith) (omega arith) (omega arith), subst (λ (s : List ℕ). length s ≤ 20) (sym e) (omega arith))
