@@ -10,7 +10,7 @@ use borrow.Author.Tests.{ltb-true, ltb-false}
 use Rattle.laws.specs.Find.{find_first, NoneBelow}
 use Rattle.laws.proofs.Choices.{by_test}
 use Rattle.laws.proofs.Find.{found, none}
-use Rattle.awaited.specs.First.{Tells, AllFail, Passed, First}
+use Rattle.awaited.specs.First.{Tells, AllFail, OnePasses, Passed, First}
 
 module _ (post : ℕ → Bool → Type 0) (a : ℕ) where
   pub fail_none : AllFail post a a
@@ -48,6 +48,9 @@ four_fail post r p q s t =
     let four = fail_next post r (r + 3) (subst (AllFail post r) f three) t in
     let g : r + 3 + 1 ≡ r + 4 = omega arith in
     subst (AllFail post r) g four
+
+pub one_passes : (post : ℕ → Bool → Type 0) (r i : ℕ) → r ≤ i → i < r + 4 → post i true → OnePasses post r (r + 4)
+one_passes post r i p q t = record { at = i; after = p; before = q; passed = t }
 
 pub fail_four : (post : ℕ → Bool → Type 0) (a b r : ℕ) → Passed post a b r → AllFail post r (r + 4) → 4 ≤ b - r → Passed post a b (r + 4)
 fail_four post a b r h k l =

@@ -9,6 +9,13 @@ Tells f r b = b ≡ f r
 abbrev pub AllFail : (ℕ → Bool → Type 0) → ℕ → ℕ → Type 0
 AllFail post a b = (i : ℕ) → a ≤ i → i < b → post i false
 
+-- one of the numbers from a up to b passed
+pub record OnePasses (post : ℕ → Bool → Type 0) (a b : ℕ) : Type 0 where
+  pub at : ℕ
+  pub after : a ≤ at
+  pub before : at < b
+  pub passed : post at true
+
 -- r is one from a to b, and every one from a up to it failed
 pub record Passed (post : ℕ → Bool → Type 0) (a b r : ℕ) : Type 0 where
   pub after : a ≤ r

@@ -1,6 +1,6 @@
 // The first number of a range that passes a test.
-ghost use Rattle.std.specs.Prelude.{◌≡◌, ℕ, false, ◌+◌, ◌<◌, ◌≤◌};
-ghost use Rattle.awaited.specs.First.{First, Passed, AllFail};
+ghost use Rattle.std.specs.Prelude.{◌≡◌, ℕ, true, false, ◌+◌, ◌<◌, ◌≤◌};
+ghost use Rattle.awaited.specs.First.{First, Passed, AllFail, OnePasses};
 
 // From `from` up to `to`; where none passes, `to`, or `from` where that is past it.
 #[tactic(auto, using(crate::proofs::Turns::turns))]
@@ -17,11 +17,12 @@ pub fn first<F: Fn(usize) -> bool>(from: usize, to: usize, test: F) -> usize
 }
 
 // Does one of the four from r on pass?
-#[tactic(auto, using(crate::proofs::Turns::four_fail))]
+#[tactic(auto, using(crate::proofs::Turns::four_fail, crate::proofs::Turns::one_passes))]
 fn one_of_four<F: Fn(usize) -> bool>(r: usize, test: &F) -> bool
     requires callable { (i : ℕ) → i < r + 4 → F.pre test.now i }
     requires room { r < 16384 }
-    ensures { result ≡ false → AllFail (F.post test.now) r (r + 4) }
+    ensures none { result ≡ false → AllFail (F.post test.now) r (r + 4) }
+    ensures one { result ≡ true → OnePasses (F.post test.now) r (r + 4) }
 {
     test(r) || test(r + 1) || test(r + 2) || test(r + 3)
 }

@@ -10,7 +10,7 @@ ghost use Rattle.lister.specs.Printed.{Printed, message};
 use chips::Chip;
 use std::error::Error;
 use std::fmt;
-use std::io::{Read, Write};
+use std::io::{Cursor, Read, Write};
 
 // How many bytes were read, and how many the text has. Numbers and no slices: the promise speaks of both buffers whole.
 #[derive(Clone, Copy)]
@@ -103,6 +103,17 @@ fn print<R: Read, W: Write>(chip: Chip, reader: &mut R, writer: &mut W) -> Resul
         .map_err(|_| Failure::Output)
 }
 
+// Says on standard error what failed: a line in one write, so that no other writer's stands in its middle. One of more than 64 bytes goes
+// out as it is made.
+fn tell<E: Write>(name: &str, failure: Failure, errors: &mut E) {
+    let mut line = Cursor::new([0u8; 64]);
+    // where standard error fails too, nobody is left to be told
+    let _ = match writeln!(line, "{name}: {failure}") {
+        Ok(()) => errors.write_all(&line.get_ref()[..(line.position() as usize).min(64)]),
+        Err(_) => writeln!(errors, "{name}: {failure}"),
+    };
+}
+
 // A listing program of that name, for a chip. What fails is said on standard error.
 pub fn run<R: Read, W: Write, E: Write>(
     name: &str,
@@ -118,8 +129,7 @@ pub fn run<R: Read, W: Write, E: Write>(
 {
     let printed = print(chip, reader, writer);
     if let Err(failure) = printed {
-        // where standard error fails too, nobody is left to be told
-        let _ = writeln!(errors, "{name}: {failure}");
+        tell(name, failure, errors);
     }
     printed
 }

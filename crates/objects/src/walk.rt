@@ -6,15 +6,13 @@ ghost use Rattle.objects.specs.Recorded.{Spotted, Holds, step_to};
 use crate::{Record, Spot};
 use words::Element;
 
-// The records of so many commands, with their objects: every OBJECT's record has its object's number.
+// The records of so many commands: every OBJECT's record has its object's number.
 #[derive(Drop)]
 pub struct Objects<'a, T: Element> {
     pub records: &'a [T],
     pub commands: usize,
-    pub count: usize,
     pub ghost recorded: { Records (T.dwords records.now) commands },
     pub ghost numbered: { Numbered (T.dwords records.now) commands },
-    pub ghost counted: { count ≡ length (objects_recorded (T.dwords records.now) commands) },
 }
 
 impl<'a, T: Element> Objects<'a, T> {
@@ -39,7 +37,7 @@ impl<'a, T: Element> Objects<'a, T> {
     #[tactic(auto, using(crate::proofs::Numbers::walk_first, crate::proofs::Numbers::walk_in, crate::proofs::Numbers::walk_number))]
     pub fn record_of(&self, from: Spot, k: usize) -> usize
         requires { Spotted (T.dwords self.now.records.now) self.now.commands from.object from.at
-            × (from.object ≤ k) × (k < self.now.count) }
+            × (from.object ≤ k) × (k < length (objects_recorded (T.dwords self.now.records.now) self.now.commands)) }
         ensures { Holds (T.dwords self.now.records.now) self.now.commands k result }
     {
         let mut r = from.at + (k - from.object);

@@ -17,21 +17,23 @@ pub fn begin(states: &mut [u8], n: usize)
     states[..n].fill(0);
 }
 
-// The rows of an event.
+// The rows of an event, where there are so many objects.
 #[tactic(auto, using(crate::proofs::StartRows::row_laws))]
 fn judge<T: Element>(
     objects: &Objects<T>,
+    count: usize,
     states: &[u8],
     e: u32,
     c: Cursors,
 ) -> Result<Cursors, Fault>
-    requires { (objects.now.count ≤ length states.now)
+    requires { (count ≡ length (objects_recorded (T.dwords objects.now.records.now) objects.now.commands))
+        × (count ≤ length states.now)
         × SoundCursors (T.dwords objects.now.records.now) objects.now.commands states.now c }
     ensures { Judges (T.dwords objects.now.records.now) objects.now.commands states.now
         (verdict_of (objects_recorded (T.dwords objects.now.records.now) objects.now.commands) states.now e) result }
 {
     let k = (e / 2) as usize;
-    if objects.count <= k {
+    if count <= k {
         return Err(Fault::NoObject);
     }
     if e % 2 == 1 {
@@ -61,26 +63,28 @@ fn at_first() -> Cursors
     Cursors::default()
 }
 
-// The events of a run, with the states as they have begun: the event count, or the event that stopped it.
+// The events of a run over so many objects, with the states as they have begun: the event count, or the event that stopped it.
 #[tactic(auto, using(crate::proofs::RunTurns::turns))]
 pub fn run<T: Element, E: Element>(
     objects: &Objects<T>,
+    count: usize,
     events: &[E],
     states: &mut [u8],
 ) -> Result<usize, Stopped>
-    requires { objects.now.count ≤ length states.old }
+    requires { (count ≡ length (objects_recorded (T.dwords objects.now.records.now) objects.now.commands))
+        × (count ≤ length states.old) }
     ensures { ended result states.new
         ≡ run_from (objects_recorded (T.dwords objects.now.records.now) objects.now.commands) (E.dwords events.now) 0 states.old }
 {
-    let count = E::held(events);
+    let end = E::held(events);
     let mut c = at_first();
-    for i in 0..count {
+    for i in 0..end {
         let e = E::word(events, i);
-        match judge(objects, states, e, c) {
+        match judge(objects, count, states, e, c) {
             Ok(next) => c = next,
             Err(fault) => return Err(Stopped { fault, position: i }),
         }
         states[(e / 2) as usize] = state_left(e);
     }
-    Ok(count)
+    Ok(end)
 }

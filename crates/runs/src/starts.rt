@@ -51,7 +51,8 @@ fn waits<T: Element>(
     own: usize,
     c: Cursors,
 ) -> Result<Cursors, Fault>
-    requires { (k < objects.now.count) × (objects.now.count ≤ length states.now)
+    requires { (k < length (objects_recorded (T.dwords objects.now.records.now) objects.now.commands))
+        × (length (objects_recorded (T.dwords objects.now.records.now) objects.now.commands) ≤ length states.now)
         × Holds (T.dwords objects.now.records.now) objects.now.commands k own × (c.unfinished.object ≤ k)
         × SoundCursors (T.dwords objects.now.records.now) objects.now.commands states.now c }
     ensures { Judges (T.dwords objects.now.records.now) objects.now.commands states.now
@@ -101,7 +102,9 @@ pub fn start<T: Element>(
     k: usize,
     c: Cursors,
 ) -> Result<Cursors, Fault>
-    requires { (k < objects.now.count) × (objects.now.count ≤ length states.now) × (state_at states.now k ≡ 0)
+    requires { (k < length (objects_recorded (T.dwords objects.now.records.now) objects.now.commands))
+        × (length (objects_recorded (T.dwords objects.now.records.now) objects.now.commands) ≤ length states.now)
+        × (state_at states.now k ≡ 0)
         × SoundCursors (T.dwords objects.now.records.now) objects.now.commands states.now c }
     ensures { Judges (T.dwords objects.now.records.now) objects.now.commands states.now
         (start_verdict (objects_recorded (T.dwords objects.now.records.now) objects.now.commands) states.now k) result }

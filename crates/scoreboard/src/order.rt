@@ -78,7 +78,6 @@ pub fn check_for<T: Element>(
     let objects = Objects {
         records,
         commands: extent.commands,
-        count: extent.objects,
     };
-    Ok(run(&objects, events, states)?)
+    Ok(run(&objects, extent.objects, events, states)?)
 }

@@ -1,4 +1,4 @@
-use Rattle.std.proofs.Common.{rules}
+use Rattle.std.proofs.Common.{rules, refl}
 use Rattle.runs.proofs.StartRows.{nearest_spot, nearest_before, start_24, start_25, start_unstalled}
 use Rattle.runs.proofs.Searches.{known_of, known_small}
 use Rattle.runs.proofs.starts.start.Goals as goal
@@ -14,7 +14,7 @@ pub overflow_cast-result : goal.overflow_cast-result
 overflow_cast-result g c =
     let p = c.requires in
     let o = c.args.objects.now in
-    search (rules, known_small _ _ _ _ (known_of _ _ _ _ _ o.recorded o.numbered o.counted p.0 p.1))
+    search (rules, known_small _ _ _ _ (known_of _ _ _ _ _ o.recorded o.numbered refl p.0 p.1))
 
 pub returns-then-waiting-k : goal.returns-then-waiting-k
 returns-then-waiting-k g c = record { verdict = start_24 _ _ _ _ _ _ c.record_of-own.ensures c.stalls.ensures _ c.if-stalls.true c.lowest_waiting-waiting.ensures.1 c.if-waiting-k.true; cursors = tt }

@@ -14,7 +14,7 @@ pub returns-then-u-k : goal.returns-then-u-k
 returns-then-u-k g c =
     let p = c.requires in
     let o = c.args.objects.now in
-    let h = known_of _ _ _ _ _ o.recorded o.numbered o.counted p.0 p.1 in
+    let h = known_of _ _ _ _ _ o.recorded o.numbered refl p.0 p.1 in
     let u = c.first_unfinished-u.ensures in
     let q = c.if-u-k.true in
     record {
@@ -26,7 +26,7 @@ pub record_of-at-requires : goal.record_of-at-requires
 record_of-at-requires g c =
     let p = c.requires in
     let o = c.args.objects.now in
-    let h = known_of _ _ _ _ _ o.recorded o.numbered o.counted p.0 p.1 in
+    let h = known_of _ _ _ _ _ o.recorded o.numbered refl p.0 p.1 in
     let u = c.first_unfinished-u.ensures in
     (p.4.first, omega (arith, u, find_least _ _ _ p.4.finished p.3), omega (arith, first_most _ _ _ _ _ h p.2 _ u, p.0))
 
@@ -34,7 +34,7 @@ pub find-f-requires : goal.find-f-requires
 find-f-requires g c =
     let p = c.requires in
     let o = c.args.objects.now in
-    let h = known_of _ _ _ _ _ o.recorded o.numbered o.counted p.0 p.1 in
+    let h = known_of _ _ _ _ _ o.recorded o.numbered refl p.0 p.1 in
     let u = c.first_unfinished-u.ensures in
     let e = c.candidate-t.ensures in
     (states_in _ _ _ _ _ h p.2, e, omega (arith, p.2.below, h.records.limit), p.4.crossed, search_from _ _ _ _ _ h p.2 _ e _ _ u c.record_of-at.ensures)
@@ -43,7 +43,7 @@ pub named-requires : goal.named-requires
 named-requires g c =
     let p = c.requires in
     let o = c.args.objects.now in
-    let h = known_of _ _ _ _ _ o.recorded o.numbered o.counted p.0 p.1 in
+    let h = known_of _ _ _ _ _ o.recorded o.numbered refl p.0 p.1 in
     let e = c.candidate-t.ensures in
     let f = c.find-f.ensures in
     (search_in _ _ _ _ _ h p.2 _ e _ f.first, search_small _ _ _ _ _ h p.2 _ e _ f.first, search_delta _ _ _ _ _ h p.2 _ e _ f.first c.if-f-own.true)
@@ -52,14 +52,14 @@ pub returns-then-f-own : goal.returns-then-f-own
 returns-then-f-own g c =
     let p = c.requires in
     let o = c.args.objects.now in
-    let h = known_of _ _ _ _ _ o.recorded o.numbered o.counted p.0 p.1 in
+    let h = known_of _ _ _ _ _ o.recorded o.numbered refl p.0 p.1 in
     record { verdict = search_verdict _ _ _ _ _ h p.2 _ c.candidate-t.ensures _ c.find-f.ensures.first _ c.if-f-own.true c.named.ensures; cursors = tt }
 
 pub returns : goal.returns
 returns g c =
     let p = c.requires in
     let o = c.args.objects.now in
-    let h = known_of _ _ _ _ _ o.recorded o.numbered o.counted p.0 p.1 in
+    let h = known_of _ _ _ _ _ o.recorded o.numbered refl p.0 p.1 in
     let f = c.find-f.ensures in
     record {
       verdict = search_nobody _ _ _ _ _ h p.2 _ c.candidate-t.ensures _ f.first c.if-f-own.false;

@@ -29,8 +29,13 @@ invariant_of-objects g c =
     record {
       recorded = records_are _ _ _ [] _ [] _ l _ w _ e _ f;
       numbered = numbers_are _ _ _ [] _ [] _ l _ w _ e _ f;
-      counted = count_is _ _ _ [] _ [] _ l _ w _ e _ f;
     }
+
+pub run-requires : goal.run-requires
+run-requires g c =
+    let l = c.held.ensures in
+    let w = c.decide.ensures in
+    (count_is _ _ _ [] _ [] _ l _ w _ c.in_ok-extent.was _ c.fill.ensures, search rules)
 
 pub returns-in_err-run : goal.returns-in_err-run
 returns-in_err-run g c =
